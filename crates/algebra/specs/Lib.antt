@@ -1,0 +1,5 @@
+pub mod Divisibility
+pub mod Euclidean
+pub mod Field
+pub mod Residues
+pub mod Weight

@@ -1,0 +1,15 @@
+// How the program is used.
+pub const HELP: &str = "casebook: calculates modulo f as if in a field
+
+  casebook euclid DOMAIN WORD MODULUS    zero, inverse W or factor W
+  casebook batch                         commands from standard input, one to a line
+  casebook help                          this text
+
+DOMAIN is 1 for whole numbers. WORD and MODULUS are decimal numbers below 2^64.
+
+  casebook euclid 1 2 7                  inverse 4, since 2 times 4 is 1 modulo 7
+  casebook euclid 1 2 6                  factor 2, since 2 divides 2 and 6
+  casebook euclid 1 14 7                 zero, since 7 divides 14
+
+A refusal is 'refused NUMBER place PLACE: REASON', and a line that is no command
+'error: WHAT IS WRONG'; as a single command they go to standard error, with status 1.";

@@ -1,0 +1,9 @@
+pub mod Answers
+pub mod Chain
+pub mod Euclid
+pub mod EuclidLaws
+pub mod Meaning
+pub mod OpeningLaws
+pub mod Refusals
+pub mod Split
+pub mod SplitLaws

@@ -1,0 +1,2 @@
+pub mod DomainLaws
+pub mod PrimeField

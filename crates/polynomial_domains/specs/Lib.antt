@@ -1,0 +1,3 @@
+pub mod PolynomialDomain
+pub mod Primes
+pub mod PrimeField

@@ -1,0 +1,1 @@
+// What the domains of polynomials share.

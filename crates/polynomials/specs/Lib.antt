@@ -1,0 +1,5 @@
+pub mod Sequence
+pub mod Polynomial
+pub mod Perfect
+pub mod Remainder
+pub mod Words

@@ -1,0 +1,210 @@
+//! Reads a command and answers it as lines of text.
+
+use crate::rules::{self, Domain, Refusal, Whole};
+use std::fmt::{self, Display};
+
+/// How this program, in the part of casebook, says that casebook is used.
+pub const USAGE: &str = "\
+casebook COMMAND WORDS..  runs one command
+casebook batch            answers each line of standard input as a command
+
+euclid DOMAIN WORD MODULUS
+help
+
+DOMAIN is 1 for whole numbers.
+";
+
+/// What a command is answered with, when it is neither refused nor wrong.
+#[derive(Debug, Clone, PartialEq, Eq)]
+pub enum Answer {
+    /// These lines.
+    Lines(Vec<String>),
+    /// How the program is used. docs/RULES.md does not say in which words.
+    Usage,
+}
+
+/// Why a command has no answer.
+#[derive(Debug, Clone, PartialEq, Eq)]
+pub enum Failure {
+    NoCommand,
+    UnknownCommand(String),
+    /// The command and the words it needs.
+    TooFewWords(&'static str, &'static str),
+    SurplusWord(String),
+    NoDomain(String),
+    NoNumber(String),
+    PastWord(String),
+    Refused(Refusal),
+}
+
+pub type Reply = Result<Answer, Failure>;
+
+impl Display for Failure {
+    fn fmt(&self, f: &mut fmt::Formatter) -> fmt::Result {
+        match self {
+            Failure::NoCommand => write!(f, "error: no command"),
+            Failure::UnknownCommand(word) => write!(f, "error: '{word}' is no command"),
+            Failure::TooFewWords(command, needed) => write!(f, "error: {command} needs {needed}"),
+            Failure::SurplusWord(word) => write!(f, "error: '{word}' is one word too many"),
+            Failure::NoDomain(word) => write!(f, "error: '{word}' is no domain"),
+            Failure::NoNumber(word) => write!(f, "error: '{word}' is no number"),
+            Failure::PastWord(word) => write!(f, "error: '{word}' is past 64 bits"),
+            Failure::Refused(refusal) => write!(f, "{refusal}"),
+        }
+    }
+}
+
+impl From<Refusal> for Failure {
+    fn from(refusal: Refusal) -> Self {
+        Failure::Refused(refusal)
+    }
+}
+
+/// The text that a reply prints, with a line end after each line; `usage` is how the program is used.
+pub fn text_of(reply: &Reply, usage: &str) -> String {
+    match reply {
+        Ok(Answer::Lines(lines)) => lines.iter().map(|line| format!("{line}\n")).collect(),
+        Ok(Answer::Usage) => usage.to_string(),
+        Err(failure) => format!("{failure}\n"),
+    }
+}
+
+/// What a batch prints for the whole of its input.
+pub fn batch_output(input: &str, usage: &str) -> String {
+    input.split_terminator('\n').map(|line| text_of(&answer_line(line), usage)).collect()
+}
+
+/// The words of a line of a batch.
+pub fn words_of(line: &str) -> Vec<&str> {
+    line.split([' ', '\t', '\r', '\x0c']).filter(|word| !word.is_empty()).collect()
+}
+
+/// Answers a line of a batch.
+pub fn answer_line(line: &str) -> Reply {
+    answer_words(&words_of(line))
+}
+
+/// Answers the arguments of a single command, which is not `batch`.
+pub fn answer_arguments(arguments: &[&str]) -> Reply {
+    if arguments.is_empty() { Ok(Answer::Usage) } else { answer_words(arguments) }
+}
+
+fn answer_words(words: &[&str]) -> Reply {
+    match words {
+        [] => Err(Failure::NoCommand),
+        ["euclid", operands @ ..] => answer_euclid(operands),
+        ["help", operands @ ..] => exactly("help", "", operands).map(|[]| Answer::Usage),
+        [other, ..] => Err(Failure::UnknownCommand(other.to_string())),
+    }
+}
+
+fn answer_euclid(operands: &[&str]) -> Reply {
+    let [domain, word, modulus] = exactly("euclid", "DOMAIN WORD MODULUS", operands)?;
+    let kind = kind_of(domain)?;
+    let (word, modulus) = (number_of(word)?, number_of(modulus)?);
+    match kind {
+        Kind::Whole => euclid_in(&Whole, word, modulus),
+    }
+}
+
+fn euclid_in<D: Domain>(domain: &D, word: u64, modulus: u64) -> Reply {
+    rules::check_modulus(domain, modulus)?;
+    Ok(Answer::Lines(vec![rules::euclid(domain, word, modulus).to_string()]))
+}
+
+/// The operands, if there are exactly as many as the command needs.
+fn exactly<'a, const N: usize>(
+    command: &'static str,
+    needed: &'static str,
+    operands: &[&'a str],
+) -> Result<[&'a str; N], Failure> {
+    if let Some(surplus) = operands.get(N) {
+        return Err(Failure::SurplusWord(surplus.to_string()));
+    }
+    operands.try_into().map_err(|_| Failure::TooFewWords(command, needed))
+}
+
+/// The kinds of domain that a DOMAIN can name.
+enum Kind {
+    Whole,
+}
+
+fn kind_of(word: &str) -> Result<Kind, Failure> {
+    match word {
+        "1" => Ok(Kind::Whole),
+        _ => Err(Failure::NoDomain(word.to_string())),
+    }
+}
+
+fn number_of(word: &str) -> Result<u64, Failure> {
+    if word.is_empty() || !word.bytes().all(|byte| byte.is_ascii_digit()) {
+        return Err(Failure::NoNumber(word.to_string()));
+    }
+    // Digits alone can fail only by being past 64 bits.
+    word.parse().map_err(|_| Failure::PastWord(word.to_string()))
+}
+
+#[cfg(test)]
+mod tests {
+    use super::*;
+
+    fn assert_answers(cases: &[(&str, &str)]) {
+        for (line, expected) in cases {
+            assert_eq!(text_of(&answer_line(line), "usage\n"), format!("{expected}\n"), "{line:?}");
+        }
+    }
+
+    #[test]
+    fn euclid_is_answered() {
+        assert_answers(&[
+            ("euclid 1 14 7", "zero"),
+            ("euclid 1 2 7", "inverse 4"),
+            ("euclid 1 2 6", "factor 2"),
+            ("euclid 1 2 1", "refused 9 place 0: the modulus is not legal"),
+            ("euclid 1 2 2147483648", "refused 9 place 0: the modulus is not legal"),
+            ("euclid 1 2 12", "refused 10 place 0: the modulus is not squarefree"),
+            ("help", "usage"),
+        ]);
+    }
+
+    #[test]
+    fn errors_are_looked_for_in_order() {
+        assert_answers(&[
+            ("", "error: no command"),
+            (" \t\r", "error: no command"),
+            ("batch", "error: 'batch' is no command"),
+            ("Euclid 1", "error: 'Euclid' is no command"),
+            ("euclid", "error: euclid needs DOMAIN WORD MODULUS"),
+            ("euclid x y", "error: euclid needs DOMAIN WORD MODULUS"),
+            ("euclid x y z u v", "error: 'u' is one word too many"),
+            ("help me now", "error: 'me' is one word too many"),
+            ("euclid x y z", "error: 'x' is no domain"),
+            ("euclid 1 y z", "error: 'y' is no number"),
+            ("euclid 1 18446744073709551616 z", "error: '18446744073709551616' is past 64 bits"),
+            ("euclid 1 2 z", "error: 'z' is no number"),
+        ]);
+    }
+
+    #[test]
+    fn numbers_are_digits_below_two_to_the_64() {
+        assert_eq!(number_of("18446744073709551615"), Ok(u64::MAX));
+        assert_eq!(number_of("000000000000000000000000000007"), Ok(7));
+        assert_eq!(number_of("18446744073709551616"), Err(Failure::PastWord("18446744073709551616".to_string())));
+        for wrong in ["", "-1", "+1", "0x10", "1e3", "1_0", "٣", "é"] {
+            assert_eq!(number_of(wrong), Err(Failure::NoNumber(wrong.to_string())));
+        }
+    }
+
+    #[test]
+    fn only_space_tab_carriage_return_and_form_feed_are_blanks() {
+        assert_eq!(words_of("\t euclid\r1 \t 2\r"), ["euclid", "1", "2"]);
+        assert_eq!(words_of("a\u{a0}b\u{b}c\u{c}d"), ["a\u{a0}b\u{b}c", "d"]);
+    }
+
+    #[test]
+    fn a_batch_answers_each_line() {
+        assert_eq!(batch_output("", "usage\n"), "");
+        assert_eq!(batch_output("\n", "usage\n"), "error: no command\n");
+        assert_eq!(batch_output("help\r\neuclid 1 2 6", "usage\n"), "usage\nfactor 2\n");
+    }
+}
