@@ -1,6 +1,6 @@
 //! Reads a command and answers it as lines of text.
 
-use crate::rules::{self, Domain, Refusal, Whole};
+use crate::rules::{self, Domain, Polynomials, Refusal, Whole};
 use std::fmt::{self, Display};
 
 /// How this program, in the part of casebook, says that casebook is used.
@@ -11,7 +11,7 @@ casebook batch            answers each line of standard input as a command
 euclid DOMAIN WORD MODULUS
 help
 
-DOMAIN is 1 for whole numbers.
+DOMAIN is 1 for whole numbers, 2 for bit polynomials, or 3/P for byte polynomials over GF(P).
 ";
 
 /// What a command is answered with, when it is neither refused nor wrong.
@@ -84,9 +84,13 @@ pub fn answer_line(line: &str) -> Reply {
     answer_words(&words_of(line))
 }
 
-/// Answers the arguments of a single command, which is not `batch`.
+/// Answers the arguments of a single command, which is not `batch` alone.
 pub fn answer_arguments(arguments: &[&str]) -> Reply {
-    if arguments.is_empty() { Ok(Answer::Usage) } else { answer_words(arguments) }
+    match arguments {
+        [] => Ok(Answer::Usage),
+        ["batch", surplus, ..] => Err(Failure::SurplusWord(surplus.to_string())),
+        _ => answer_words(arguments),
+    }
 }
 
 fn answer_words(words: &[&str]) -> Reply {
@@ -104,6 +108,8 @@ fn answer_euclid(operands: &[&str]) -> Reply {
     let (word, modulus) = (number_of(word)?, number_of(modulus)?);
     match kind {
         Kind::Whole => euclid_in(&Whole, word, modulus),
+        Kind::Bits => euclid_in(&Polynomials::BITS, word, modulus),
+        Kind::Bytes(p) => euclid_in(&Polynomials::bytes(p)?, word, modulus),
     }
 }
 
@@ -125,15 +131,21 @@ fn exactly<'a, const N: usize>(
 }
 
 /// The kinds of domain that a DOMAIN can name.
+#[derive(Debug, PartialEq, Eq)]
 enum Kind {
     Whole,
+    Bits,
+    /// With p, which need not be in the list of primes.
+    Bytes(u64),
 }
 
 fn kind_of(word: &str) -> Result<Kind, Failure> {
-    match word {
-        "1" => Ok(Kind::Whole),
-        _ => Err(Failure::NoDomain(word.to_string())),
-    }
+    let kind = match word {
+        "1" => Some(Kind::Whole),
+        "2" => Some(Kind::Bits),
+        _ => word.strip_prefix("3/").and_then(|p| number_of(p).ok()).map(Kind::Bytes),
+    };
+    kind.ok_or_else(|| Failure::NoDomain(word.to_string()))
 }
 
 fn number_of(word: &str) -> Result<u64, Failure> {
@@ -163,8 +175,53 @@ mod tests {
             ("euclid 1 2 1", "refused 9 place 0: the modulus is not legal"),
             ("euclid 1 2 2147483648", "refused 9 place 0: the modulus is not legal"),
             ("euclid 1 2 12", "refused 10 place 0: the modulus is not squarefree"),
+            ("euclid 2 2 7", "inverse 3"),
+            ("euclid 2 14 7", "zero"),
+            ("euclid 2 2 6", "factor 2"),
+            ("euclid 2 2 5", "refused 10 place 0: the modulus is not squarefree"),
+            ("euclid 2 2 4294967296", "refused 9 place 0: the modulus is not legal"),
+            ("euclid 3/5 513 65537", "factor 259"),
+            ("euclid 3/005 513 65537", "factor 259"),
+            ("euclid 3/5 65537 65537", "zero"),
+            ("euclid 3/7 256 65537", "inverse 1536"),
+            ("euclid 3/5 2 5", "refused 9 place 0: the modulus is not legal"),
+            ("euclid 3/3 2 16777217", "refused 10 place 0: the modulus is not squarefree"),
             ("help", "usage"),
         ]);
+    }
+
+    #[test]
+    fn an_unlisted_p_is_refused_before_the_modulus_and_after_the_words() {
+        for p in ["0", "1", "2", "4", "9", "253", "255", "257", "18446744073709551615"] {
+            for modulus in ["65537", "0", "65536"] {
+                let line = format!("euclid 3/{p} 2 {modulus}");
+                assert_answers(&[(&line, "refused 8 place 0: p is not in the list of primes")]);
+            }
+            assert_answers(&[(&format!("euclid 3/{p} x 0"), "error: 'x' is no number")]);
+            assert_answers(&[(&format!("euclid 3/{p} 2 y"), "error: 'y' is no number")]);
+        }
+    }
+
+    #[test]
+    fn domains_are_read() {
+        assert_eq!(kind_of("1"), Ok(Kind::Whole));
+        assert_eq!(kind_of("2"), Ok(Kind::Bits));
+        assert_eq!(kind_of("3/05"), Ok(Kind::Bytes(5)));
+        assert_eq!(kind_of("3/18446744073709551615"), Ok(Kind::Bytes(u64::MAX)));
+        for wrong in ["", "0", "01", "02", "3", "3/", "03/5", "3/-5", "3/5/", "3/5x", "3/18446744073709551616", "2/5"] {
+            assert_eq!(kind_of(wrong), Err(Failure::NoDomain(wrong.to_string())));
+        }
+    }
+
+    #[test]
+    fn an_argument_is_one_word_and_batch_takes_none() {
+        let surplus = |word: &str| Err(Failure::SurplusWord(word.to_string()));
+        assert_eq!(answer_arguments(&["batch", "x"]), surplus("x"));
+        assert_eq!(answer_arguments(&["batch", "", "y"]), surplus(""));
+        assert_eq!(answer_arguments(&["help", " "]), surplus(" "));
+        assert_eq!(answer_arguments(&["euclid", "1", " 2", "6"]), Err(Failure::NoNumber(" 2".to_string())));
+        assert_eq!(answer_arguments(&[""]), Err(Failure::UnknownCommand(String::new())));
+        assert_eq!(answer_arguments(&[]), Ok(Answer::Usage));
     }
 
     #[test]
@@ -173,6 +230,7 @@ mod tests {
             ("", "error: no command"),
             (" \t\r", "error: no command"),
             ("batch", "error: 'batch' is no command"),
+            ("batch x", "error: 'batch' is no command"),
             ("Euclid 1", "error: 'Euclid' is no command"),
             ("euclid", "error: euclid needs DOMAIN WORD MODULUS"),
             ("euclid x y", "error: euclid needs DOMAIN WORD MODULUS"),

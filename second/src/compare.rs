@@ -126,9 +126,9 @@ fn run(path: &str, arguments: &[&str], input: &str) -> Result<Run, String> {
 }
 
 /// Compares all jobs.
-pub fn compare_all(path: &str, seed: u64) -> Result<Report, String> {
+pub fn compare_all(path: &str, start: u64) -> Result<Report, String> {
     let mut report = Report::default();
-    let lines = jobs::batch_lines(seed);
+    let lines = jobs::batch_lines(start);
     let usage = usage_text(path, &mut report)?;
     compare_lines(path, &lines, &usage, &mut report)?;
     compare_batches(path, &usage, &mut report)?;

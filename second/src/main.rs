@@ -22,7 +22,7 @@ fn main() -> ExitCode {
     let arguments: Vec<String> = std::env::args().skip(1).collect();
     let words: Vec<&str> = arguments.iter().map(String::as_str).collect();
     let result = match words.as_slice() {
-        ["--answer"] => answer_batch(),
+        ["--answer"] | ["--answer", "batch"] => answer_batch(),
         ["--answer", command @ ..] => answer_single(command),
         [path] if !path.starts_with("--") => compare_with(path, DEFAULT_SEED),
         [path, "--seed", seed] | ["--seed", seed, path] => match seed.parse() {

@@ -1,12 +1,12 @@
-//! A small generator of numbers (splitmix64), the same for the same seed on every machine.
+//! A small generator of numbers (splitmix64), the same for the same random start on every machine.
 
 pub struct Random {
     state: u64,
 }
 
 impl Random {
-    pub fn new(seed: u64) -> Self {
-        Random { state: seed }
+    pub fn new(start: u64) -> Self {
+        Random { state: start }
     }
 
     pub fn word(&mut self) -> u64 {

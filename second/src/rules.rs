@@ -1,5 +1,11 @@
 //! Domains, Euclid and refusals, as docs/RULES.md states them, by plain arithmetic.
 
+mod polynomials;
+mod whole;
+
+pub use polynomials::Polynomials;
+pub use whole::Whole;
+
 use std::fmt::{self, Debug, Display};
 
 /// A ring with an element for every word, and its legal moduli.
@@ -24,57 +30,10 @@ pub trait Domain {
     fn remainder(&self, a: &Self::Element, b: &Self::Element) -> Self::Element {
         self.divide(a, b).1
     }
-}
 
-/// Kind 1: whole numbers.
-pub struct Whole;
-
-impl Whole {
-    pub const LARGEST_MODULUS: u64 = 2_147_483_647;
-}
-
-impl Domain for Whole {
-    type Element = i128;
-
-    fn zero(&self) -> i128 {
-        0
-    }
-
-    fn one(&self) -> i128 {
-        1
-    }
-
-    fn element(&self, word: u64) -> i128 {
-        i128::from(word)
-    }
-
-    fn canonical_word(&self, element: &i128) -> u64 {
-        u64::try_from(*element).expect("a remainder or a modulus is neither negative nor past 64 bits")
-    }
-
-    fn subtract(&self, a: &i128, b: &i128) -> i128 {
-        a - b
-    }
-
-    fn multiply(&self, a: &i128, b: &i128) -> i128 {
-        a * b
-    }
-
-    fn divide(&self, a: &i128, b: &i128) -> (i128, i128) {
-        (a.div_euclid(*b), a.rem_euclid(*b))
-    }
-
-    fn normalizing_unit(&self, a: &i128) -> i128 {
-        a.signum()
-    }
-
-    fn is_legal_modulus(&self, word: u64) -> bool {
-        (2..=Self::LARGEST_MODULUS).contains(&word)
-    }
-
-    /// Tries the square of every number from 2 up to the square root.
-    fn is_squarefree(&self, modulus: u64) -> bool {
-        (2..).map(|d: u64| d * d).take_while(|square| *square <= modulus).all(|square| !modulus.is_multiple_of(square))
+    /// Whether `d`, which is not 0, divides `a`.
+    fn divides(&self, d: &Self::Element, a: &Self::Element) -> bool {
+        self.remainder(a, d) == self.zero()
     }
 }
 
@@ -104,13 +63,16 @@ pub fn euclid<D: Domain>(domain: &D, word: u64, modulus: u64) -> Euclid {
         return Euclid::Zero;
     }
     let (divisor, multiplier) = common_divisor(domain, &a, &m);
-    if divisor != domain.one() {
-        return Euclid::Factor(domain.canonical_word(&divisor));
+    let multiplier = domain.remainder(&multiplier, &m);
+    assert!(
+        is_greatest(domain, &divisor, &multiplier, &a, &m),
+        "{divisor:?}, with {multiplier:?}, must be the greatest common divisor of {a:?} and {m:?}"
+    );
+    if divisor == domain.one() {
+        Euclid::Inverse(domain.canonical_word(&multiplier))
+    } else {
+        Euclid::Factor(domain.canonical_word(&divisor))
     }
-    let inverse = domain.remainder(&multiplier, &m);
-    let product = domain.remainder(&domain.multiply(&inverse, &a), &m);
-    assert!(product == domain.one(), "an inverse of {a:?} modulo {m:?} must have the product 1, not {product:?}");
-    Euclid::Inverse(domain.canonical_word(&inverse))
 }
 
 /// The normal greatest common divisor of a non-zero `a` and `m`, and a multiplier of `a` that gives it modulo `m`.
@@ -128,6 +90,18 @@ fn common_divisor<D: Domain>(domain: &D, a: &D::Element, m: &D::Element) -> (D::
     (domain.multiply(&unit, &rest), domain.multiply(&unit, &multiplier))
 }
 
+/// Whether `divisor` divides `a` and `m`, and is `multiplier` × `a` modulo `m`; then every common divisor divides it.
+fn is_greatest<D: Domain>(
+    domain: &D,
+    divisor: &D::Element,
+    multiplier: &D::Element,
+    a: &D::Element,
+    m: &D::Element,
+) -> bool {
+    let difference = domain.subtract(&domain.multiply(multiplier, a), divisor);
+    domain.divides(divisor, a) && domain.divides(divisor, m) && domain.divides(m, &difference)
+}
+
 /// A refusal: its number, its place and its reason.
 #[derive(Debug, Clone, Copy, PartialEq, Eq)]
 pub struct Refusal {
@@ -136,6 +110,7 @@ pub struct Refusal {
     pub reason: &'static str,
 }
 
+pub const NOT_LISTED: Refusal = Refusal { number: 8, place: 0, reason: "p is not in the list of primes" };
 pub const NOT_LEGAL: Refusal = Refusal { number: 9, place: 0, reason: "the modulus is not legal" };
 pub const NOT_SQUAREFREE: Refusal = Refusal { number: 10, place: 0, reason: "the modulus is not squarefree" };
 
@@ -160,79 +135,19 @@ pub fn check_modulus<D: Domain>(domain: &D, modulus: u64) -> Result<(), Refusal>
 mod tests {
     use super::*;
 
-    /// Euclid over whole numbers by the words of docs/RULES.md, trying every number.
-    fn euclid_by_search(word: u64, modulus: u64) -> Euclid {
-        let divides = |d: u64, n: u64| n.is_multiple_of(d);
-        if divides(modulus, word) {
-            return Euclid::Zero;
-        }
-        if let Some(inverse) = (0..modulus).find(|w| w * word % modulus == 1) {
-            return Euclid::Inverse(inverse);
-        }
-        let common: Vec<u64> = (1..=modulus).filter(|d| divides(*d, word) && divides(*d, modulus)).collect();
-        let greatest = common.iter().find(|g| common.iter().all(|d| divides(*d, **g)));
-        Euclid::Factor(*greatest.expect("one common divisor is a multiple of all others"))
-    }
-
-    #[test]
-    fn euclid_gives_the_examples() {
-        assert_eq!(euclid(&Whole, 14, 7), Euclid::Zero);
-        assert_eq!(euclid(&Whole, 2, 7), Euclid::Inverse(4));
-        assert_eq!(euclid(&Whole, 2, 6), Euclid::Factor(2));
-    }
-
-    #[test]
-    fn euclid_agrees_with_search() {
-        for modulus in 2..=150 {
-            for word in 0..=310 {
-                assert_eq!(euclid(&Whole, word, modulus), euclid_by_search(word, modulus), "{word} modulo {modulus}");
-            }
-        }
-    }
-
-    #[test]
-    fn euclid_handles_large_numbers() {
-        // 2^31 = 1 modulo 2^31 - 1, so 2 has the inverse 2^30.
-        assert_eq!(euclid(&Whole, 2, Whole::LARGEST_MODULUS), Euclid::Inverse(1 << 30));
-        // 2^64 - 1 = 3 × 5 × 17 × 257 × 641 × 65537 × 6700417.
-        assert_eq!(euclid(&Whole, u64::MAX, 641), Euclid::Zero);
-        assert_eq!(euclid(&Whole, u64::MAX, 7 * 641), Euclid::Factor(641));
-    }
-
-    #[test]
-    fn squarefree_agrees_with_prime_factors() {
-        let repeats_a_prime = |number: u64| {
-            let mut rest = number;
-            (2..=number).any(|p| {
-                let mut times = 0;
-                while rest.is_multiple_of(p) {
-                    rest /= p;
-                    times += 1;
-                }
-                times > 1
-            })
-        };
-        for number in 2..=2000 {
-            assert_eq!(Whole.is_squarefree(number), !repeats_a_prime(number), "{number}");
-        }
-        assert!(Whole.is_squarefree(223_092_870));
-        assert!(Whole.is_squarefree(Whole::LARGEST_MODULUS));
-        assert!(!Whole.is_squarefree(46_337 * 46_337));
-    }
-
-    #[test]
-    fn legality_is_tried_before_squarefreeness() {
-        assert_eq!(check_modulus(&Whole, 0), Err(NOT_LEGAL));
-        assert_eq!(check_modulus(&Whole, 1), Err(NOT_LEGAL));
-        assert_eq!(check_modulus(&Whole, 2), Ok(()));
-        assert_eq!(check_modulus(&Whole, 4), Err(NOT_SQUAREFREE));
-        assert_eq!(check_modulus(&Whole, 2_147_483_647), Ok(()));
-        assert_eq!(check_modulus(&Whole, 2_147_483_648), Err(NOT_LEGAL));
-    }
-
     #[test]
     fn refusals_read_as_written() {
+        assert_eq!(NOT_LISTED.to_string(), "refused 8 place 0: p is not in the list of primes");
         assert_eq!(NOT_LEGAL.to_string(), "refused 9 place 0: the modulus is not legal");
         assert_eq!(NOT_SQUAREFREE.to_string(), "refused 10 place 0: the modulus is not squarefree");
+    }
+
+    #[test]
+    fn a_wrong_divisor_is_noticed() {
+        assert!(is_greatest(&Whole, &2, &1, &2, &6));
+        // 1 is no multiple of 2 modulo 6, 3 does not divide 2, and 2 × 2 is not 2 modulo 6.
+        assert!(!is_greatest(&Whole, &1, &1, &2, &6));
+        assert!(!is_greatest(&Whole, &3, &1, &2, &6));
+        assert!(!is_greatest(&Whole, &2, &2, &2, &6));
     }
 }

@@ -1,9 +1,15 @@
 // The commands and their words.
+use crate::domain::DomainName;
+use crate::domain::byte_polys_over;
+use crate::domain::domain_named;
 use crate::inversion::invert;
 use crate::number::NumberFault;
 use crate::number::decimal;
 use crate::reply::Complaint;
 use crate::reply::Reply;
+use bit_polys::BitPolys;
+use bit_polys::BitPolysDomain;
+use byte_polys::BytePolysDomain;
 use domains::Domain;
 use integers::Integers;
 use integers::IntegersDomain;
@@ -38,12 +44,29 @@ fn help<'a>(operands: &[&'a str]) -> Result<Reply<'a>, Complaint<'a>> {
 
 fn euclid<'a>(operands: &[&'a str]) -> Result<Reply<'a>, Complaint<'a>> {
     match operands {
-        [domain, word, modulus] => match *domain {
-            "1" => euclid_over(&Integers, word, modulus),
-            other => Err(Complaint::NoDomain(other)),
+        [domain, word, modulus] => match domain_named(domain)? {
+            DomainName::Integers => euclid_over(&Integers, word, modulus),
+            DomainName::BitPolys => euclid_over(&BitPolys, word, modulus),
+            DomainName::BytePolys(p) => euclid_over_bytes(p, word, modulus),
         },
         [_, _, _, surplus, ..] => Err(Complaint::TooManyWords(surplus)),
         _ => Err(Complaint::TooFewWords(EUCLID)),
+    }
+}
+
+// Byte polynomials over GF(p), where there are any for p.
+fn euclid_over_bytes<'a>(
+    p: u64,
+    word: &'a str,
+    modulus: &'a str,
+) -> Result<Reply<'a>, Complaint<'a>> {
+    match byte_polys_over(p) {
+        Ok(domain) => euclid_over(&domain, word, modulus),
+        Err(refusal) => {
+            number(word)?;
+            number(modulus)?;
+            Ok(Reply::Refused(refusal))
+        }
     }
 }
 

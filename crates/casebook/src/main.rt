@@ -5,6 +5,7 @@ use std::io::BufRead;
 use std::io::BufReader;
 
 mod command;
+mod domain;
 mod help;
 mod inversion;
 mod number;
@@ -12,6 +13,7 @@ mod reply;
 
 use command::answer;
 use help::HELP;
+use reply::Complaint;
 use reply::Reply;
 use reply::ReplyDisplay;
 
@@ -32,6 +34,7 @@ fn run(rt: &LibcRuntime, words: &[&str]) -> Result<(), AnyError> {
     match words {
         [] => usage(rt),
         ["batch"] => batch(rt),
+        ["batch", surplus, ..] => single(rt, Reply::Wrong(Complaint::TooManyWords(surplus))),
         _ => single(rt, answer(words)),
     }
 }

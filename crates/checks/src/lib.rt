@@ -2,4 +2,6 @@
 #[cfg(test)]
 mod asked;
 #[cfg(test)]
+mod polynomials;
+#[cfg(test)]
 mod whole_numbers;

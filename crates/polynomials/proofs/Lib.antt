@@ -18,3 +18,4 @@ pub mod Characteristic
 pub mod ZeroDerivative
 pub mod Squarefree
 pub mod Words
+pub mod Shifts

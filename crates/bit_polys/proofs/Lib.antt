@@ -1,0 +1,9 @@
+pub mod HighestBits
+pub mod Words
+pub mod Degrees
+pub mod Steps
+pub mod LongDivision
+pub mod Products
+pub mod Moduli
+pub mod Derivatives
+pub mod Coprimality

@@ -1,0 +1,3 @@
+pub mod BitPolys
+pub mod Division
+pub mod Moduli

@@ -1,0 +1,4 @@
+pub mod Listed
+pub mod ByteField
+pub mod Steps
+pub mod Domain
