@@ -1,5 +1,6 @@
 //! Reads a command and answers it as lines of text.
 
+use crate::programs;
 use crate::rules::{self, Domain, Polynomials, Refusal, Whole};
 use std::fmt::{self, Display};
 
@@ -9,9 +10,11 @@ casebook COMMAND WORDS..  runs one command
 casebook batch            answers each line of standard input as a command
 
 euclid DOMAIN WORD MODULUS
+check HEX
 help
 
 DOMAIN is 1 for whole numbers, 2 for bit polynomials, or 3/P for byte polynomials over GF(P).
+HEX is the bytes of a program, two hexadecimal digits each.
 ";
 
 /// What a command is answered with, when it is neither refused nor wrong.
@@ -34,6 +37,9 @@ pub enum Failure {
     NoDomain(String),
     NoNumber(String),
     PastWord(String),
+    /// The word, and the number of characters before the first that is no hexadecimal digit.
+    NoHexDigit(String, usize),
+    OddDigits(String),
     Refused(Refusal),
 }
 
@@ -49,6 +55,8 @@ impl Display for Failure {
             Failure::NoDomain(word) => write!(f, "error: '{word}' is no domain"),
             Failure::NoNumber(word) => write!(f, "error: '{word}' is no number"),
             Failure::PastWord(word) => write!(f, "error: '{word}' is past 64 bits"),
+            Failure::NoHexDigit(word, at) => write!(f, "error: '{word}' has no hexadecimal digit at {at}"),
+            Failure::OddDigits(word) => write!(f, "error: '{word}' has an odd number of digits"),
             Failure::Refused(refusal) => write!(f, "{refusal}"),
         }
     }
@@ -97,6 +105,7 @@ fn answer_words(words: &[&str]) -> Reply {
     match words {
         [] => Err(Failure::NoCommand),
         ["euclid", operands @ ..] => answer_euclid(operands),
+        ["check", operands @ ..] => answer_check(operands),
         ["help", operands @ ..] => exactly("help", "", operands).map(|[]| Answer::Usage),
         [other, ..] => Err(Failure::UnknownCommand(other.to_string())),
     }
@@ -116,6 +125,13 @@ fn answer_euclid(operands: &[&str]) -> Reply {
 fn euclid_in<D: Domain>(domain: &D, word: u64, modulus: u64) -> Reply {
     rules::check_modulus(domain, modulus)?;
     Ok(Answer::Lines(vec![rules::euclid(domain, word, modulus).to_string()]))
+}
+
+fn answer_check(operands: &[&str]) -> Reply {
+    let [hex] = exactly("check", "HEX", operands)?;
+    let commands = programs::read(&bytes_of(hex)?)?;
+    programs::check(&commands)?;
+    Ok(Answer::Lines(programs::listing(&commands)))
 }
 
 /// The operands, if there are exactly as many as the command needs.
@@ -156,6 +172,19 @@ fn number_of(word: &str) -> Result<u64, Failure> {
     word.parse().map_err(|_| Failure::PastWord(word.to_string()))
 }
 
+/// The bytes of a HEX.
+fn bytes_of(word: &str) -> Result<Vec<u8>, Failure> {
+    if let Some(at) = word.chars().position(|character| !character.is_ascii_hexdigit()) {
+        return Err(Failure::NoHexDigit(word.to_string(), at));
+    }
+    let digits: Vec<u8> =
+        word.chars().filter_map(|character| character.to_digit(16)).map(|digit| digit as u8).collect();
+    if digits.len() % 2 == 1 {
+        return Err(Failure::OddDigits(word.to_string()));
+    }
+    Ok(digits.chunks(2).map(|pair| 16 * pair[0] + pair[1]).collect())
+}
+
 #[cfg(test)]
 mod tests {
     use super::*;
@@ -188,6 +217,33 @@ mod tests {
             ("euclid 3/3 2 16777217", "refused 10 place 0: the modulus is not squarefree"),
             ("help", "usage"),
         ]);
+    }
+
+    #[test]
+    fn programs_are_checked() {
+        let listing = [
+            "accepted 4 commands", "  0 SET 0 2 next 10", "  10 TEST 0 zero 17 other 14", "  14 INV 1 0 next 17",
+            "  17 END 0",
+        ];
+        assert_answers(&[
+            ("check 01000200000000000000070011000601000900", &listing.join("\n")),
+            ("check 01000200000000000000070010000601000900", "refused 5 place 10: a jump goes to no command"),
+            ("check 09eF", "accepted 1 commands\n  0 END 239"),
+            ("check 09F0", "refused 4 place 0: a cell of 64 or more, or an end code over 239"),
+            ("check 0a", "refused 2 place 0: an unknown command byte"),
+            ("check 09", "refused 3 place 0: a command's operands run past the end"),
+            ("check 020000", "refused 6 place 0: the last command is neither GO nor END"),
+            ("check 0900 0900", "error: '0900' is one word too many"),
+            ("check x 090 y", "error: '090' is one word too many"),
+            ("check", "error: check needs HEX"),
+            ("check 090", "error: '090' has an odd number of digits"),
+            ("check 0x090", "error: '0x090' has no hexadecimal digit at 1"),
+            ("check é9g", "error: 'é9g' has no hexadecimal digit at 0"),
+            ("check 09００", "error: '09００' has no hexadecimal digit at 2"),
+        ]);
+        let no_bytes = "refused 1 place 0: the program has no bytes or more than 1,024\n";
+        assert_eq!(text_of(&answer_arguments(&["check", ""]), ""), no_bytes);
+        assert_eq!(text_of(&answer_line(&format!("check {}", "0900".repeat(600))), ""), no_bytes);
     }
 
     #[test]

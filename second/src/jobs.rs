@@ -3,6 +3,7 @@
 mod bits;
 mod bytes;
 mod maker;
+mod programs;
 mod whole;
 mod writing;
 
@@ -12,9 +13,12 @@ use crate::random::Random;
 /// Lines for a batch. Several kinds of line are random, and the same for the same start.
 pub fn batch_lines(start: u64) -> Vec<String> {
     let mut random = Random::new(start);
-    let kinds_of_job = [whole::lines, bits::lines, bytes::lines, writing::lines];
+    let kinds_of_job = [whole::lines, bits::lines, bytes::lines, programs::lines, writing::lines];
     kinds_of_job.iter().flat_map(|lines| lines(&mut random)).collect()
 }
+
+/// Well below the longest argument of a program on Linux, 128 KiB.
+const LONGEST_ARGUMENT: usize = 100_000;
 
 fn euclid_line(domain: &str, word: u64, modulus: u64) -> String {
     format!("euclid {domain} {word} {modulus}")
@@ -41,6 +45,9 @@ pub fn whole_batches() -> Vec<String> {
         "euclid 1 2 7\nbatch",
         "euclid 2 2 7\neuclid 3/5 513 65537\neuclid 3/4 2 0\neuclid 3/5 2 0\neuclid 2 2 5",
         "\x0ceuclid\x0c3/5\x0c513\x0c65537\x0c\n",
+        "check 01000200000000000000070011000601000900",
+        "check 0900\r\ncheck 0901\r\ncheck\r\ncheck 0900",
+        "check 0900\n\ncheck 02000009EF\neuclid 1 2 6\ncheck 09\ncheck 09\n00\n",
     ];
     inputs.map(str::to_string).to_vec()
 }
@@ -51,8 +58,8 @@ pub fn single_commands(batch_lines: &[String]) -> Vec<Vec<String>> {
     let every = (batch_lines.len() / 300).max(1);
     for line in batch_lines.iter().step_by(every) {
         let words = words_of(line);
-        // `batch` alone reads lines here, and an argument cannot hold a zero byte.
-        if words != ["batch"] && !line.contains('\0') {
+        // `batch` alone reads lines here, and an argument can neither hold a zero byte nor be very long.
+        if words != ["batch"] && !line.contains('\0') && line.len() < LONGEST_ARGUMENT {
             commands.push(words.into_iter().map(str::to_string).collect());
         }
     }
@@ -119,6 +126,37 @@ fn particular_commands() -> Vec<Vec<String>> {
         &["euclid ", "1", "2", "6"],
         &["euclid", "1", "2 6"],
         &["euclid 1 2 6"],
+        &["check"],
+        &["check", ""],
+        &["check", "", ""],
+        &["check", "01000200000000000000070011000601000900"],
+        &["check", "01000200000000000000070010000601000900"],
+        &["check", "09eF"],
+        &["check", "09", "00"],
+        &["check", "0900", ""],
+        &["check", "0900", "x", "y"],
+        &["check", " "],
+        &["check", " 0900"],
+        &["check", "0900 "],
+        &["check", "09 00"],
+        &["check", "0900\n"],
+        &["check", "09\r"],
+        &["check", "0900é"],
+        &["check", "é0900"],
+        &["check", "0x0900"],
+        &["check", "-"],
+        &["check", "090"],
+        &["check", "0g0"],
+        &["check", "9"],
+        &["check", "09"],
+        &["check", "0a"],
+        &["check", "09f0"],
+        &["check", "080100"],
+        &["check", "020000"],
+        &["check 0900"],
+        &["Check", "0900"],
+        &["help", "check"],
+        &["batch", "check", "0900"],
         &["batch", "x"],
         &["batch", ""],
         &["batch", " "],
@@ -180,6 +218,8 @@ mod tests {
         assert!(count(|r| matches!(r, Err(Failure::NoDomain(_)))) > 10);
         assert!(count(|r| matches!(r, Err(Failure::NoNumber(_)))) > 10);
         assert!(count(|r| matches!(r, Err(Failure::PastWord(_)))) > 10);
+        assert!(count(|r| matches!(r, Err(Failure::NoHexDigit(..)))) > 100);
+        assert!(count(|r| matches!(r, Err(Failure::OddDigits(_)))) > 50);
         assert!(count(|r| matches!(r, Ok(Answer::Usage))) > 5);
     }
 }

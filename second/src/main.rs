@@ -9,6 +9,7 @@
 mod answer;
 mod compare;
 mod jobs;
+mod programs;
 mod random;
 mod rules;
 

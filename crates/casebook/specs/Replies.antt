@@ -11,7 +11,7 @@ use Rattle.domains.specs.Refusals.{line}
 use Rattle.casebook.specs.declared.inversion.Inverted.{Inverted}
 use Rattle.casebook.specs.declared.inversion.Inverted.the-variants.{Zero, Inverse, Factor}
 use Rattle.casebook.specs.declared.reply.Complaint.{Complaint}
-use Rattle.casebook.specs.declared.reply.Complaint.the-variants.{NoCommand, UnknownCommand, TooFewWords, TooManyWords, NoDomain, NoNumber, LargeNumber}
+use Rattle.casebook.specs.declared.reply.Complaint.the-variants.{NoCommand, UnknownCommand, TooFewWords, TooManyWords, NoDomain, NoNumber, LargeNumber, NoHexDigit, OddDigits}
 use Rattle.casebook.specs.declared.reply.Reply.{Reply}
 use Rattle.casebook.specs.declared.reply.Reply.the-variants.{Help, Euclid, Refused, Wrong}
 
@@ -27,6 +27,8 @@ complaintLine (TooManyWords w) = quoted (now w) (codes "' is one word too many")
 complaintLine (NoDomain w) = quoted (now w) (codes "' is no domain")
 complaintLine (NoNumber w) = quoted (now w) (codes "' is no number")
 complaintLine (LargeNumber w) = quoted (now w) (codes "' is past 64 bits")
+complaintLine (NoHexDigit w n) = quoted (now w) (codes "' has no hexadecimal digit at " ++ decimal n)
+complaintLine (OddDigits w) = quoted (now w) (codes "' has an odd number of digits")
 
 abbrev pub euclidLine : Inverted → List ℕ
 euclidLine Zero = codes "zero"

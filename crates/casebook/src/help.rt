@@ -2,6 +2,7 @@
 pub const HELP: &str = "casebook: calculates modulo f as if in a field
 
   casebook euclid DOMAIN WORD MODULUS    zero, inverse W or factor W
+  casebook check HEX                     reads and checks a byte program, and lists it
   casebook batch                         commands from standard input, one to a line
   casebook help                          this text
 

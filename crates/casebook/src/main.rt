@@ -1,4 +1,6 @@
 // The command line of the case solver: one command, or a batch of them from standard input.
+use std::alloc::AllocError;
+use std::alloc::Global;
 use std::env;
 use std::error::AnyError;
 use std::io::BufRead;
@@ -7,12 +9,17 @@ use std::io::BufReader;
 mod command;
 mod domain;
 mod help;
+mod hex;
 mod inversion;
+mod listing;
 mod number;
+mod programs;
 mod reply;
 
 use command::answer;
 use help::HELP;
+use programs::Output;
+use programs::check_program;
 use reply::Complaint;
 use reply::Reply;
 use reply::ReplyDisplay;
@@ -35,13 +42,31 @@ fn run(rt: &LibcRuntime, words: &[&str]) -> Result<(), AnyError> {
         [] => usage(rt),
         ["batch"] => batch(rt),
         ["batch", surplus, ..] => single(rt, Reply::Wrong(Complaint::TooManyWords(surplus))),
-        _ => single(rt, answer(words)),
+        _ => respond(rt, words),
     }
 }
 
 fn usage(rt: &LibcRuntime) -> Result<(), AnyError> {
     rt.println(HELP)?;
     Ok(())
+}
+
+fn respond(rt: &LibcRuntime, words: &[&str]) -> Result<(), AnyError> {
+    match output(rt.alloc(), words)? {
+        Output::Reply(reply) => single(rt, reply),
+        Output::Listing(text) => {
+            rt.println(text)?;
+            Ok(())
+        }
+    }
+}
+
+// The answer to a command.
+fn output<'a>(heap: Global, words: &[&'a str]) -> Result<Output<'a>, AllocError> {
+    match words {
+        ["check", operands @ ..] => check_program(heap, operands),
+        _ => Ok(Output::Reply(answer(words))),
+    }
 }
 
 // Prints an answer; a refusal or an error goes to standard error, and ends the program with status 1.
@@ -63,7 +88,10 @@ fn batch(rt: &LibcRuntime) -> Result<(), AnyError> {
         for word in line.as_str().split_ascii_whitespace() {
             words.push(word)?;
         }
-        rt.println(answer(words.as_slice()))?;
+        match output(rt.alloc(), words.as_slice())? {
+            Output::Reply(reply) => rt.println(reply)?,
+            Output::Listing(text) => rt.println(text)?,
+        }
     }
     Ok(())
 }

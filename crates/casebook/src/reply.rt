@@ -20,6 +20,9 @@ pub enum Complaint<'a> {
     NoDomain(&'a str),
     NoNumber(&'a str),
     LargeNumber(&'a str),
+    // After how many digits another character stands.
+    NoHexDigit(&'a str, usize),
+    OddDigits(&'a str),
 }
 
 #[derive(Clone, Copy)]
@@ -51,6 +54,11 @@ pub impl fmt::Display for Complaint<'_> as ComplaintDisplay {
             Complaint::NoDomain(word) => write!(f, "error: '{word}' is no domain"),
             Complaint::NoNumber(word) => write!(f, "error: '{word}' is no number"),
             Complaint::LargeNumber(word) => write!(f, "error: '{word}' is past 64 bits"),
+            Complaint::NoHexDigit(word, before) => write!(
+                f,
+                "error: '{word}' has no hexadecimal digit at {before}"
+            ),
+            Complaint::OddDigits(word) => write!(f, "error: '{word}' has an odd number of digits"),
         }
     }
 }

@@ -131,6 +131,10 @@ fn bad_word(word: &str) -> Vec<String> {
         format!("euclid 3/4 513 {word}"),
         format!("euclid 3/{word} 513 65537"),
         format!("euclid 3/{word} x 65537"),
+        format!("check {word}"),
+        format!("check 09{word}00"),
+        format!("check 0900{word}"),
+        format!("check 0900 {word}"),
     ]
 }
 

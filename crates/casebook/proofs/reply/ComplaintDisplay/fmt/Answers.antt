@@ -20,3 +20,11 @@ returns-in-NoNumber g c plain ok = put-is _ _ _ _ _ (sym (ap complaintLine (c .i
 
 pub returns-in-LargeNumber : need.returns-in-LargeNumber
 returns-in-LargeNumber g c plain ok = put-is _ _ _ _ _ (sym (ap complaintLine (c .in-LargeNumber .is))) (c .write-in-LargeNumber .ensures .shows plain ok)
+
+pub returns-in-NoHexDigit : need.returns-in-NoHexDigit
+returns-in-NoHexDigit g c plain ok =
+    put-is _ _ _ _ _ (sym (ap complaintLine (c .in-NoHexDigit .is))) (c .write-in-NoHexDigit .ensures .shows plain ok)
+
+pub returns-in-OddDigits : need.returns-in-OddDigits
+returns-in-OddDigits g c plain ok =
+    put-is _ _ _ _ _ (sym (ap complaintLine (c .in-OddDigits .is))) (c .write-in-OddDigits .ensures .shows plain ok)

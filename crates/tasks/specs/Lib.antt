@@ -1,0 +1,11 @@
+pub mod CheckLaws
+pub mod Commands
+pub mod FrontLaws
+pub mod Grammar
+pub mod GrammarLaws
+pub mod Items
+pub mod Laws
+pub mod Machine
+pub mod Programs
+pub mod ReadLaws
+pub mod Reading
