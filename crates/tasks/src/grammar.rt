@@ -26,7 +26,8 @@ fn accept_laws(bytes: &[u8])
     ensures { λ _. ⌜ AcceptLaws (now (bytes .entry)) ⌝ }
 {}
 
-// Which bytes are read and checked, as what items, and their table. It does nothing: it is called for what it ensures.
+// Which bytes are read and checked, as what items, and their table. It does nothing, and nothing calls it yet: its
+// contract states the theorems.
 pub(crate) fn grammar_laws(bytes: &[u8])
     ensures { λ _. ⌜ GrammarLaws (now (bytes .entry)) ⌝ }
 {}
