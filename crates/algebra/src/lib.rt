@@ -1,1 +1,2 @@
 // Mathematics only: the definitions are in specs/, the theorems in proofs/. There is no code.
+#![tactic(auto)]

@@ -1,7 +1,7 @@
 -- What a search of the list of primes finds. Assumes nothing.
-use Rattle.std.proofs.Common.{◌≡◌, ℕ, zero, suc, ◌<◌, Bool, true, false, eqb, List, [], ◌∷◌, length, get_or, Decides, sym, refl, arith}
+use Rattle.std.proofs.Common.{◌≡◌, ℕ, zero, suc, ◌<◌, Bool, true, false, eqb, List, [], ◌∷◌, length, get_or, sym, refl, ◌∙◌, arith}
 use Rattle.std.specs.List.{IsAnyAnswer}
-use Rattle.std.proofs.lemmas.Bool.{false≢true, eq-eqb, ne_eqb, or_left, or_right, or_from}
+use Rattle.std.proofs.lemmas.Bool.{false≢true, eq-eqb, eqb-true, ne_eqb, or_left, or_right, or_from}
 use Rattle.byte_polys.specs.Listed.{among, primes, listed}
 
 -- what stands at a place of a list is among its numbers
@@ -16,11 +16,11 @@ among_none p [] h = refl
 among_none p (q ∷ qs) h = or_from (eqb q p) (among p qs) (ne_eqb q p (h 0 (omega arith))) (among_none p qs (λ k l. h (suc k) (omega arith)))
 
 -- a search finds what is among the numbers of the list
-pub contains_among : (p : ℕ) (qs : List ℕ) (r : Bool) → IsAnyAnswer (λ y t. Decides t (y ≡ p)) qs r → r ≡ among p qs
-contains_among p qs true h = sym (among_at p qs h.0 h.1 ((h.2 0).0 refl))
-contains_among p qs false h = sym (among_none p qs (λ k l e. false≢true ((h k 0 (omega arith) l).1 e)))
+pub contains_among : (p : ℕ) (qs : List ℕ) (r : Bool) → IsAnyAnswer (λ y t. eqb y p ≡ t) qs r → r ≡ among p qs
+contains_among p qs true h = sym (among_at p qs h.0 h.1 (eqb-true _ p (h.2 0)))
+contains_among p qs false h = sym (among_none p qs (λ k l e. false≢true (sym (h k 0 (omega arith) l) ∙ eq-eqb _ p e)))
 
 -- and in the table of primes what is listed
-pub contains_listed : (p : ℕ) (r : Bool) → IsAnyAnswer (λ y t. Decides t (y ≡ p)) primes r → r ≡ listed p
+pub contains_listed : (p : ℕ) (r : Bool) → IsAnyAnswer (λ y t. eqb y p ≡ t) primes r → r ≡ listed p
 unfolding listed
 contains_listed p r h = contains_among p primes r h

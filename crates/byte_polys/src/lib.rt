@@ -1,5 +1,7 @@
 // The domain of polynomials over GF(p), for each prime p from 3 to 251. Byte i of a word, modulo p, is the coefficient of
 // x^i, and the moduli are the squarefree monic polynomials of degree 1 to 7.
+#![tactic(auto)]
+
 mod arithmetic;
 mod division;
 mod domain;

@@ -1,8 +1,10 @@
 // The command line of the case solver: one command, or a batch of them from standard input.
-use anyhow::anyhow;
+#![tactic(auto)]
+
 use std::alloc::{AllocError, Global};
 use std::env;
 use std::io::{BufRead, BufReader};
+use std::process::ExitCode;
 use wording::{Complaint, HELP, Reply};
 
 mod command;
@@ -13,7 +15,7 @@ mod programs;
 use command::answer;
 use programs::{Output, check_program};
 
-fn main(rt: HostRuntime) -> anyhow::Result<()> {
+fn main(rt: HostRuntime) -> anyhow::Result<ExitCode> {
     let mut arguments = Vec::new(rt.alloc());
     for argument in env::args(&rt)?.skip(1) {
         arguments.push(argument)?;
@@ -26,7 +28,7 @@ fn main(rt: HostRuntime) -> anyhow::Result<()> {
 }
 
 // Runs one command; `batch`, which only the command line has, answers the lines of standard input.
-fn run(rt: &HostRuntime, words: &[&str]) -> anyhow::Result<()> {
+fn run(rt: &HostRuntime, words: &[&str]) -> anyhow::Result<ExitCode> {
     match words {
         [] => usage(rt),
         ["batch"] => batch(rt),
@@ -35,17 +37,17 @@ fn run(rt: &HostRuntime, words: &[&str]) -> anyhow::Result<()> {
     }
 }
 
-fn usage(rt: &HostRuntime) -> anyhow::Result<()> {
+fn usage(rt: &HostRuntime) -> anyhow::Result<ExitCode> {
     rt.println(HELP)?;
-    Ok(())
+    Ok(ExitCode::SUCCESS)
 }
 
-fn respond(rt: &HostRuntime, words: &[&str]) -> anyhow::Result<()> {
+fn respond(rt: &HostRuntime, words: &[&str]) -> anyhow::Result<ExitCode> {
     match output(rt.alloc(), words)? {
         Output::Reply(reply) => single(rt, reply),
         Output::Listing(text) => {
             rt.println(text)?;
-            Ok(())
+            Ok(ExitCode::SUCCESS)
         }
     }
 }
@@ -59,18 +61,18 @@ fn output<'a>(heap: Global, words: &[&'a str]) -> Result<Output<'a>, AllocError>
 }
 
 // Prints an answer; a refusal or an error goes to standard error, and ends the program with status 1.
-fn single(rt: &HostRuntime, reply: Reply<'_>) -> anyhow::Result<()> {
+fn single(rt: &HostRuntime, reply: Reply<'_>) -> anyhow::Result<ExitCode> {
     if reply.is_failure() {
         rt.eprintln(reply)?;
-        Err(anyhow!("refused"))
+        Ok(ExitCode::FAILURE)
     } else {
         rt.println(reply)?;
-        Ok(())
+        Ok(ExitCode::SUCCESS)
     }
 }
 
 // Answers each line of standard input, until it ends.
-fn batch(rt: &HostRuntime) -> anyhow::Result<()> {
+fn batch(rt: &HostRuntime) -> anyhow::Result<ExitCode> {
     for line in BufReader::new(rt.alloc(), rt.stdin())?.lines(rt.alloc()) {
         let line = line?;
         let mut words = Vec::new(rt.alloc());
@@ -82,5 +84,5 @@ fn batch(rt: &HostRuntime) -> anyhow::Result<()> {
             Output::Listing(text) => rt.println(text)?,
         }
     }
-    Ok(())
+    Ok(ExitCode::SUCCESS)
 }

@@ -1,8 +1,8 @@
 // Examples of what the crates answer, each proved and run.
+#![tactic(auto)]
+
 #[cfg(test)]
 mod asked;
-#[cfg(test)]
-mod machine;
 #[cfg(test)]
 mod polynomials;
 #[cfg(test)]

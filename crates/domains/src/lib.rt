@@ -1,4 +1,6 @@
 // What a domain is, and what is done over any domain.
+#![tactic(auto)]
+
 mod chain;
 mod domain;
 mod gcd;

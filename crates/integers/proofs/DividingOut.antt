@@ -168,7 +168,7 @@ only_root n r low high q = go (dec_lt r k) (dec_lt k r)
         absurd (omega (arith, q.2, Nat.mul-le-mul h h))
     go (no u) (yes w) =
         let h : k + 1 ≤ r = omega arith in
-        absurd (omega (arith, q.2, Nat.mul-le-mul h h, Nat.mul_add (k + 1) k 1, Nat.add_mul k 1 k))
+        absurd (omega (arith, q.2, Nat.mul-le-mul h h, Nat.mul-add (k + 1) k 1, Nat.add-mul k 1 k))
     go (no u) (no w) = omega arith
 
 -- a cube below 2^31 is that of a number up to 1290

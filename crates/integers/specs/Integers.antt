@@ -32,7 +32,7 @@ word (negsuc n) = 0
 abbrev pub integers : Meaning
 integers = record {
   Element = ℤ;
-  euclidean = record { ring = ring; equal = ℤ_discrete; size = nat_abs; normal = positive };
+  euclidean = record { ring = ring; equal = ℤ_discrete; size = unsigned_abs; normal = positive };
   element = pos;
   legal = legal;
   remainder = λ m a. pos (wrapped (unsigned_abs m) a);

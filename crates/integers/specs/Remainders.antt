@@ -75,7 +75,7 @@ wrapped_difference k a b h = wrapped_equal k h (pos (a + s)) (pos a +ℤ neg_ℤ
     s = k - b % k
 
     count : k * (1 + b / k) ≡ b + s
-    count = omega (arith, Nat.mul_add k 1 (b / k), Nat.div-add-mod b k, Nat.mod-lt b h)
+    count = omega (arith, Nat.mul-add k 1 (b / k), Nat.div-add-mod b k, Nat.mod-lt b h)
 
     gone : neg_ℤ (pos b) +ℤ pos (b + s) ≡ pos s
     gone = sym (+ℤ_assoc (neg_ℤ (pos b)) (pos b) (pos s)) ∙ ap (λ x. x +ℤ pos s) (+ℤ_invl (pos b)) ∙ +ℤ_idl (pos s)

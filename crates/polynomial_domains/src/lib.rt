@@ -1,1 +1,2 @@
 // What the domains of polynomials share.
+#![tactic(auto)]

@@ -1,4 +1,6 @@
 // What a task is: a start, and a command for every place; and the machine that runs it.
+#![tactic(auto)]
+
 mod checking;
 mod command;
 mod front;

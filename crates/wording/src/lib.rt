@@ -1,4 +1,6 @@
 // What the program reads and says, as text: decimal numbers, hexadecimal digits, and the lines of its answers.
+#![tactic(auto)]
+
 mod help;
 mod hex;
 mod inversion;

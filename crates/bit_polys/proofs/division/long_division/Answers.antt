@@ -5,10 +5,10 @@ use Rattle.bit_polys.proofs.division.long_division.Goals as goal
 
 -- in a turn, the highest bits of the divisor and of the rest
 divisor : (c : goal.After-ilog2) → Top c.args.b c.ilog2-degree.result
-divisor c = record { low = c.ilog2-degree.ensures.power_le; high = c.ilog2-degree.ensures.next-power-gt }
+divisor c = record { low = c.ilog2-degree.ensures.power_le; high = c.ilog2-degree.ensures.next_power_gt }
 
 left : (c : goal.After-ilog2) → Top c.loop-rest.rest c.ilog2.result
-left c = record { low = c.ilog2.ensures.power_le; high = c.ilog2.ensures.next-power-gt }
+left c = record { low = c.ilog2.ensures.power_le; high = c.ilog2.ensures.next_power_gt }
 
 -- the divisor is no longer than the rest
 long : (c : goal.After-ilog2) → c.ilog2-degree.result ≤ c.ilog2.result
@@ -17,10 +17,10 @@ long c = top_above _ _ _ (left c) (shifted_nonzero _ _ (omega arith))
 pub loop-rest-init : goal.loop-rest-init
 loop-rest-init c =
     let s = start c.args.a c.args.b in
-    (s, done _ _ _ _ _ s (record { low = c.ilog2-degree.ensures.power_le; high = c.ilog2-degree.ensures.next-power-gt }))
+    (s, done _ _ _ _ _ s (record { low = c.ilog2-degree.ensures.power_le; high = c.ilog2-degree.ensures.next_power_gt }))
 
-pub overflow-sub-shift : goal.overflow-sub-shift
-overflow-sub-shift c = long c
+pub overflow_sub-shift : goal.overflow_sub-shift
+overflow_sub-shift c = long c
 
 pub loop-rest-smaller : goal.loop-rest-smaller
 loop-rest-smaller c =

@@ -5,7 +5,7 @@ use Rattle.bit_polys.proofs.product.product.Goals as goal
 
 -- in a turn, the highest bit of the rest
 left : (c : goal.After-ilog2-shift) → Top c.loop-rest.rest c.ilog2-shift.result
-left c = record { low = c.ilog2-shift.ensures.power_le; high = c.ilog2-shift.ensures.next-power-gt }
+left c = record { low = c.ilog2-shift.ensures.power_le; high = c.ilog2-shift.ensures.next_power_gt }
 
 pub loop-rest-init : goal.loop-rest-init
 loop-rest-init c = let s = start c.args.a c.args.b in (s, done c.args.a c.args.b _ _ s)

@@ -7,5 +7,5 @@ loop-next-init c = let s = start c.args.a c.args.b in (omega arith, omega arith,
 
 pub loop-next-preserved : goal.loop-next-preserved
 loop-next-preserved c =
-    let s = next_stage c.args.a c.args.b _ _ _ _ c.loop-next.invariant.2 (omega arith) c.long-division-rest.ensures in
+    let s = next_stage c.args.a c.args.b _ _ _ _ c.loop-next.invariant.2 (omega arith) c.long_division-rest.ensures in
     (omega arith, omega arith, s, done c.args.a c.args.b _ _ s)

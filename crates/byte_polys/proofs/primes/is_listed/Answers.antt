@@ -1,4 +1,4 @@
-use Rattle.std.proofs.Common.{◌≡◌, Decides, sym, ◌∙◌, subst}
+use Rattle.std.proofs.Common.{◌≡◌, eqb, sym, ◌∙◌, subst}
 use Rattle.std.specs.List.{IsAnyAnswer}
 use Rattle.byte_polys.specs.Listed.{listed, listed_same, listed_low, listed_high}
 use Rattle.byte_polys.proofs.ListedPrimes.{contains_listed}
@@ -8,5 +8,5 @@ pub returns : goal.returns
 returns c =
     let p = c.args.p in
     let r = c.contains.result in
-    let found = contains_listed p r (subst (λ qs. IsAnyAnswer (λ y t. Decides t (y ≡ p)) qs r) c.table.ensures c.contains.ensures.cases) in
+    let found = contains_listed p r (subst (λ qs. IsAnyAnswer (λ y t. eqb y p ≡ t) qs r) c.table.ensures c.contains.ensures.cases) in
     record { listed = found; primes = found ∙ listed_same p; range = λ t. (listed_low p (sym found ∙ t), listed_high p (sym found ∙ t)) }

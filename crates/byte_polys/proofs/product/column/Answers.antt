@@ -6,7 +6,7 @@ use Rattle.byte_polys.proofs.product.column.Goals as goal
 pub loop-i-init : goal.loop-i-init
 loop-i-init c =
     let eight : length c.args.b.now ≡ 8 = omega arith in
-    (sym (products_low c.args.a.now c.args.b.now c.args.k c.saturating-sub-i.result (past_end c.args.b.now 8 eight) (omega arith)), omega arith)
+    (sym (products_low c.args.a.now c.args.b.now c.args.k c.saturating_sub-i.result (past_end c.args.b.now 8 eight) (omega arith)), omega arith)
 
 pub loop-i-preserved : goal.loop-i-preserved
 loop-i-preserved c =

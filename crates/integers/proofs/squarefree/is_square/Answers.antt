@@ -13,7 +13,7 @@ returns-then-root-ge2 c =
     let n = c.args.n in
     decides_equal (root * root) n (IsSquare n)
     (λ e. (root, c.if-root-ge2.true, e))
-    (λ q. ap (λ x. x * x) (only_root n root c.isqrt-root.ensures.square_le c.isqrt-root.ensures.next-square-gt q) ∙ q.2)
+    (λ q. ap (λ x. x * x) (only_root n root c.isqrt-root.ensures.square_le c.isqrt-root.ensures.next_square_gt q) ∙ q.2)
 
 -- a root below 2 is not the root of a square from 4 on
 pub returns-else-root-ge2 : goal.returns-else-root-ge2
@@ -21,4 +21,4 @@ returns-else-root-ge2 c =
     let root = c.isqrt-root.result in
     let n = c.args.n in
     subst (λ b. Decides b (IsSquare n)) (sym (lt-leb 2 root c.if-root-ge2.false))
-    (λ q. omega (arith, q.1, only_root n root c.isqrt-root.ensures.square_le c.isqrt-root.ensures.next-square-gt q))
+    (λ q. omega (arith, q.1, only_root n root c.isqrt-root.ensures.square_le c.isqrt-root.ensures.next_square_gt q))

@@ -8,8 +8,8 @@ loop-d-init c =
     (lit≤ tt, lit≤ tt, omega arith, s, told s (lit≤ tt))
 
 -- the cube of a number up to 1291 fits 32 bits
-pub overflow-mul-d-in-loop-d : goal.overflow-mul-d-in-loop-d
-overflow-mul-d-in-loop-d c =
+pub overflow_mul-d-in-loop-d : goal.overflow_mul-d-in-loop-d
+overflow_mul-d-in-loop-d c =
     let h = c.loop-d.invariant.1 in
     omega (arith, mul-le-mul (mul-le-mul h h) h)
 

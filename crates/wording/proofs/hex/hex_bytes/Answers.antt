@@ -4,7 +4,7 @@ use Rattle.wording.proofs.hex.hex_bytes.Goals as goal
 
 pub loop-i-preserved : goal.loop-i-preserved
 loop-i-preserved c =
-    pushed c.args.text.now (vec_items c.loop-i.bytes) _ c.loop-i.i _ (omega arith) c.in-ok-push.ensures.items (search (rules, c.pair.ensures)) c.loop-i.invariant
+    pushed c.args.text.now (vec_items c.loop-i.bytes) _ c.loop-i.i _ (omega arith) c.in_ok-push.ensures.items (search (rules, c.pair.ensures)) c.loop-i.invariant
 
 pub returns : goal.returns
 returns c =

@@ -26,12 +26,12 @@ pub returns-in-Some : goal.returns-in-Some
 returns-in-Some c =
     let xs = c.args.text.now in
     let all = take_all c.loop-b.b-index xs c.loop-b-test.false in
-    let some : 0 < length xs = omega (arith, false-eqb _ _ c.if-is-empty.ensures) in
+    let some : 0 < length xs = omega (arith, false-eqb _ _ c.if-is_empty.ensures) in
     read_fitting xs c.in-Some.n some (subst (λ ys. all_digits ys ≡ true) all c.loop-b.invariant.0) (sym c.in-Some.is ∙ c.loop-b.invariant.1 ∙ ap (λ ys. fitting (positional ys)) all)
 
 pub returns-in-None : goal.returns-in-None
 returns-in-None c =
     let xs = c.args.text.now in
     let all = take_all c.loop-b.b-index xs c.loop-b-test.false in
-    let some : 0 < length xs = omega (arith, false-eqb _ _ c.if-is-empty.ensures) in
+    let some : 0 < length xs = omega (arith, false-eqb _ _ c.if-is_empty.ensures) in
     read_past xs some (subst (λ ys. all_digits ys ≡ true) all c.loop-b.invariant.0) (sym c.in-None.is ∙ c.loop-b.invariant.1 ∙ ap (λ ys. fitting (positional ys)) all)

@@ -5,15 +5,15 @@ use Rattle.bit_polys.specs.ModuliLemmas.{test_range, decides_modulus, outside, d
 use Rattle.bit_polys.proofs.domain.BitPolys.is_modulus.Goals as goal
 
 -- a word in range is a modulus exactly when it is squarefree
-pub returns-then-is-in-range : goal.returns-then-is-in-range
-returns-then-is-in-range c =
+pub returns-then-is_in_range : goal.returns-then-is_in_range
+returns-then-is_in_range c =
     let w = c.args.w in
-    let plain = decides_modulus c.no-square-divides.result w (test_range w (sym c.if-is-in-range.ensures)) c.no-square-divides.ensures in
-    record { meant = decides_meant c.no-square-divides.result w plain; plain = plain }
+    let plain = decides_modulus c.no_square_divides.result w (test_range w (sym c.if-is_in_range.ensures)) c.no_square_divides.ensures in
+    record { meant = decides_meant c.no_square_divides.result w plain; plain = plain }
 
 -- and no other word is one
-pub returns-else-is-in-range : goal.returns-else-is-in-range
-returns-else-is-in-range c =
+pub returns-else-is_in_range : goal.returns-else-is_in_range
+returns-else-is_in_range c =
     let w = c.args.w in
-    let plain = subst (λ b. Decides b (ModulusWord c.args.w)) (sym c.if-is-in-range.false) (outside w (sym c.if-is-in-range.ensures)) in
-    record { meant = decides_meant c.is-in-range.result w plain; plain = plain }
+    let plain = subst (λ b. Decides b (ModulusWord c.args.w)) (sym c.if-is_in_range.false) (outside w (sym c.if-is_in_range.ensures)) in
+    record { meant = decides_meant c.is_in_range.result w plain; plain = plain }

@@ -13,9 +13,9 @@ returns-in-Some c =
     let b = c.args.b.coefficients in
     let below = below_same b c.requires.second c.args.b.below in
     let top = c.in-Some.ensures in
-    let q = c.quotient-and-remainder.result.0 in
-    let r = c.quotient-and-remainder.result.1 in
-    let found = c.quotient-and-remainder.ensures in
+    let q = c.quotient_and_remainder.result.0 in
+    let r = c.quotient_and_remainder.result.1 in
+    let found = c.quotient_and_remainder.ensures in
     record {
       p = found.p;
       parts = record {

@@ -15,7 +15,7 @@ loop-top-init c =
 pub loop-top-preserved-then-rest-top-ne0 : goal.loop-top-preserved-then-rest-top-ne0
 unfolding byte_polys
 loop-top-preserved-then-rest-top-ne0 c =
-    let s = stage_next (modulo c.args.self.p c.args.self.prime) c.requires.divisor c.loop-top.top c.fused-c.result (omega arith) (omega arith) c.fused-c.ensures c.loop-top.invariant.0 c.add-multiple.ensures in
+    let s = stage_next (modulo c.args.self.p c.args.self.prime) c.requires.divisor c.loop-top.top c.fused-c.result (omega arith) (omega arith) c.fused-c.ensures c.loop-top.invariant.0 c.add_multiple.ensures in
     (s, s.sum)
 
 -- and one that finds 0

@@ -8,10 +8,10 @@ use Rattle.byte_polys.specs.SamePrime.{below_same}
 use Rattle.byte_polys.proofs.Units.{monic_product, zero_multiple, unit_constant, multiple_monic}
 use Rattle.byte_polys.proofs.field.BytePolys.monic_multiple.Goals as goal
 
-pub invariant-of-result : goal.invariant-of-result
-invariant-of-result c =
+pub invariant_of-result : goal.invariant_of-result
+invariant_of-result c =
     let L = modulo c.args.self.p c.args.self.prime in
-    (added_below L.positive c.multiple-coefficients.ensures (zeros_below L eight_zeros), (c.args.self.prime, tt))
+    record { below = added_below L.positive c.multiple-coefficients.ensures (zeros_below L eight_zeros); prime = c.args.self.prime }
 
 pub returns : goal.returns
 unfolding byte_polys

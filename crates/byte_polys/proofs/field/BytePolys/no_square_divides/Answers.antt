@@ -14,11 +14,14 @@ use Rattle.byte_polys.specs.Instance.{modulo}
 use Rattle.byte_polys.specs.SamePrime.{below_same}
 use Rattle.byte_polys.proofs.field.BytePolys.no_square_divides.Goals as goal
 
-pub invariant-of-derivative : goal.invariant-of-derivative
-invariant-of-derivative c =
+pub invariant_of-derivative : goal.invariant_of-derivative
+invariant_of-derivative c =
     let eight : length c.derivative-coefficients.result ≡ 8 = omega arith in
     let found = c.derivative-coefficients.ensures in
-    (derivative_below (modulo c.args.self.p c.args.self.prime) c.args.a.coefficients c.derivative-coefficients.result found.each found.last (past_end c.derivative-coefficients.result 8 eight), (c.args.self.prime, tt))
+    record {
+      below = derivative_below (modulo c.args.self.p c.args.self.prime) c.args.a.coefficients c.derivative-coefficients.result found.each found.last (past_end c.derivative-coefficients.result 8 eight);
+      prime = c.args.self.prime;
+    }
 
 pub returns : goal.returns
 unfolding byte_polys

@@ -8,8 +8,8 @@ use Rattle.byte_polys.proofs.Sums.{product_below, product_poly}
 use Rattle.byte_polys.specs.SamePrime.{below_same}
 use Rattle.byte_polys.proofs.field.BytePolys.product_residue.Goals as goal
 
-pub residue-of-requires : goal.residue-of-requires
-residue-of-requires c =
+pub residue_of-requires : goal.residue_of-requires
+residue_of-requires c =
     let fifteen : length c.columns-rest.result ≡ 15 = omega arith in
     record {
       own = c.requires.modulus;
@@ -29,7 +29,7 @@ returns c =
     let second : length c.args.b.coefficients ≡ 8 = omega arith in
     let fifteen : length c.columns-rest.result ≡ 15 = omega arith in
     record {
-      p = c.residue-of.ensures.p;
-      value = c.residue-of.ensures.value ∙ ap (λ f. to_word (field p h) (byte_digits p h) (remainder (field p h) (from_word (field p h) (byte_digits p h) (number c.args.m.coefficients)) f))
+      p = c.residue_of.ensures.p;
+      value = c.residue_of.ensures.value ∙ ap (λ f. to_word (field p h) (byte_digits p h) (remainder (field p h) (from_word (field p h) (byte_digits p h) (number c.args.m.coefficients)) f))
           (product_poly (modulo p h) a b c.columns-rest.result (past_end c.columns-rest.result 15 fifteen) c.columns-rest.ensures (below_same a c.requires.first c.args.a.below) (below_same b c.requires.second c.args.b.below) (past_end a 8 first) (past_end b 8 second));
     }

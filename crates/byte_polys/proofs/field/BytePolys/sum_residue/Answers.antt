@@ -9,8 +9,8 @@ use Rattle.byte_polys.proofs.Sums.{sum_poly}
 use Rattle.byte_polys.specs.SamePrime.{below_same}
 use Rattle.byte_polys.proofs.field.BytePolys.sum_residue.Goals as goal
 
-pub residue-of-requires : goal.residue-of-requires
-residue-of-requires c = record {
+pub residue_of-requires : goal.residue_of-requires
+residue_of-requires c = record {
   own = c.requires.modulus;
   long = omega arith;
   short = omega arith;
@@ -24,7 +24,7 @@ returns c =
     let h = c.args.self.prime in
     let eight : length c.args.b.coefficients ≡ 8 = omega arith in
     record {
-      p = c.residue-of.ensures.p;
-      value = c.residue-of.ensures.value ∙ ap (λ f. to_word (field p h) (byte_digits p h) (remainder (field p h) (from_word (field p h) (byte_digits p h) (number c.args.m.coefficients)) f))
+      p = c.residue_of.ensures.p;
+      value = c.residue_of.ensures.value ∙ ap (λ f. to_word (field p h) (byte_digits p h) (remainder (field p h) (from_word (field p h) (byte_digits p h) (number c.args.m.coefficients)) f))
           (sum_poly (modulo p h) c.sum-rest.ensures (below_same c.args.a.coefficients c.requires.first c.args.a.below) (below_same c.args.b.coefficients c.requires.second c.args.b.below) (past_end c.args.b.coefficients 8 eight));
     }

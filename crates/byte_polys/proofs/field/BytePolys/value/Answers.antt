@@ -10,10 +10,10 @@ use Rattle.byte_polys.proofs.Numbers.{bytes_of, bytes_below, number_bytes}
 use Rattle.byte_polys.proofs.Sums.{zeros_below, reduced_poly}
 use Rattle.byte_polys.proofs.field.BytePolys.value.Goals as goal
 
-pub invariant-of-result : goal.invariant-of-result
-invariant-of-result c =
+pub invariant_of-result : goal.invariant_of-result
+invariant_of-result c =
     let L = modulo c.args.self.p c.args.self.prime in
-    (added_below L.positive c.multiple-coefficients.ensures (zeros_below L eight_zeros), (c.args.self.prime, tt))
+    record { below = added_below L.positive c.multiple-coefficients.ensures (zeros_below L eight_zeros); prime = c.args.self.prime }
 
 pub returns : goal.returns
 unfolding byte_polys bytes_of
@@ -21,9 +21,9 @@ returns c =
     let p = c.args.self.p in
     let h = c.args.self.prime in
     let L = modulo p h in
-    let bytes = c.to-le-bytes.result in
-    let is : c.to-le-bytes.result ≡ bytes_of c.args.w = c.to-le-bytes.ensures in
-    let eight : length c.to-le-bytes.result ≡ 8 = omega arith in
+    let bytes = c.to_le_bytes.result in
+    let is : c.to_le_bytes.result ≡ bytes_of c.args.w = c.to_le_bytes.ensures in
+    let eight : length c.to_le_bytes.result ≡ 8 = omega arith in
     let fits : c.args.w < 2 ^ 64 = omega arith in
     let value =
     reduced_poly L c.multiple-coefficients.ensures eight_zeros (subst (Below 256) (sym is) (bytes_below c.args.w)) (past_end bytes 8 eight)

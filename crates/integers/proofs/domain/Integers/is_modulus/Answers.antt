@@ -7,9 +7,9 @@ use Rattle.integers.specs.SquarefreeNumbers.{word_bounds, squarefree_modulus, mo
 use Rattle.integers.proofs.domain.Integers.is_modulus.Goals as goal
 
 -- a legal word is a modulus exactly when no square divides it
-pub returns-then-is-legal : goal.returns-then-is-legal
-returns-then-is-legal c =
+pub returns-then-is_legal : goal.returns-then-is_legal
+returns-then-is_legal c =
     let w = c.args.w in
-    let b = word_bounds w (sym c.if-is-legal.ensures) in
-    let plain = decides_like c.no-square-divides.result (NoSquareDivides w) (ModulusWord w) (λ f. record { large = b.low; small = omega arith; free = f }) (λ m. m.free) c.no-square-divides.ensures in
-    record { meant = decides_like c.no-square-divides.result (ModulusWord w) (SquarefreeModulus integers w) (squarefree_modulus w) (modulus_word w) plain; plain = plain }
+    let b = word_bounds w (sym c.if-is_legal.ensures) in
+    let plain = decides_like c.no_square_divides.result (NoSquareDivides w) (ModulusWord w) (λ f. record { large = b.low; small = omega arith; free = f }) (λ m. m.free) c.no_square_divides.ensures in
+    record { meant = decides_like c.no_square_divides.result (ModulusWord w) (SquarefreeModulus integers w) (squarefree_modulus w) (modulus_word w) plain; plain = plain }
