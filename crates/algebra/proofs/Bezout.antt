@@ -2,15 +2,14 @@
 -- greatest common divisor that is a sum of multiples of the two (Bézout), and so an irreducible that divides a product
 -- divides a factor. Everything is proved from `EuclideanLaws`. Assumes nothing.
 use mathlib.Core.Path.{◌≡◌, refl, sym, ap, ◌∙◌, subst}
-use mathlib.Core.Logic.{◌⊎◌, inl, inr, ◌≢◌}
-use mathlib.Core.Bool.{true}
+use mathlib.Core.Logic.{inl, inr, ◌≢◌}
 use Prim.Native.Nat.{ℕ, zero, suc, ◌<◌, ◌≤◌}
 use native.Mathlib.Omega.{arith}
 use native.Mathlib.Decide.{ℕ_discrete}
-use Rattle.algebra.specs.Divisibility.{minus, Divides, IsUnit, Irreducible, Coprime, Squarefree, GreatestCommonDivisor}
+use Rattle.algebra.specs.Divisibility.{minus, Divides, IsUnit, GreatestCommonDivisor}
 use Rattle.algebra.specs.Euclidean.{Euclidean, EuclideanLaws, Division}
-use Rattle.algebra.proofs.Ring.{add_assoc, add_comm, add_left_comm, add-zero, zero-add, mul_assoc, mul_comm, mul_left_comm, mul-one, one-mul, mul-zero, zero-mul, mul_add, add_mul, mul_neg, neg_mul, neg_sum, sub_eq, eq_sub, sub_zero_eq}
-use Rattle.algebra.proofs.Divides.{divides_self, divides_zero, divides_trans, divides_eq, divides_left, divides_right, divides_mul, divides_mul_left, divides_add, divides_sub, divides_back, divides_product, unit_divides, divisor_of_unit, one_unit, inverse_unit, unit_product, unit_multiple_divides, one_divides}
+use Rattle.algebra.proofs.Ring.{add_left_comm, add-zero, mul_assoc, mul_comm, one-mul, mul-zero, zero-mul, mul_add, add_mul, mul_neg, neg_mul, sub_eq, sub_zero_eq}
+use Rattle.algebra.proofs.Divides.{divides_self, divides_zero, divides_eq, divides_mul_left, divides_add, divides_sub, one_divides}
 
 module _ {R : Type 0} {E : Euclidean R} (L : EuclideanLaws E) where
   open E.ring use {add as ◌+◌, mul as ◌*◌, zero as 𝟘, neg, one as 𝟙}

@@ -1,9 +1,9 @@
 -- Congruence modulo m: an equivalence that sums, differences and products keep. Assumes nothing.
-use mathlib.Core.Path.{◌≡◌, refl, sym, ap, ◌∙◌, subst}
+use mathlib.Core.Path.{◌≡◌, refl, sym, ap, ◌∙◌}
 use mathlib.Mathlib.Algebra.Ring.Defs.{CommRing}
 use Rattle.algebra.specs.Divisibility.{minus, Divides, Congruent}
-use Rattle.algebra.proofs.Ring.{add_assoc, add_comm, add_left_comm, add-zero, zero-add, add_neg, neg_add, neg_neg, neg_sum, mul_comm, mul_add, add_mul, mul_neg, neg_mul, sub_self, sub_eq, eq_sub}
-use Rattle.algebra.proofs.Divides.{divides_zero, divides_eq, divides_trans, divides_add, divides_neg, divides_mul, divides_mul_left, divides_back, divides_sub}
+use Rattle.algebra.proofs.Ring.{add_assoc, add_comm, add_left_comm, zero-add, neg_add, neg_neg, neg_sum, mul_comm, mul_add, mul_neg, sub_self}
+use Rattle.algebra.proofs.Divides.{divides_zero, divides_eq, divides_trans, divides_add, divides_neg, divides_mul_left, divides_back}
 
 module _ {R : Type 0} (𝓡 : CommRing R) where
   open 𝓡 use {add as ◌+◌, mul as ◌*◌, zero as 𝟘, neg, one as 𝟙}

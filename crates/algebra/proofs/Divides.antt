@@ -3,7 +3,7 @@
 use mathlib.Core.Path.{◌≡◌, refl, sym, ap, ◌∙◌}
 use mathlib.Mathlib.Algebra.Ring.Defs.{CommRing}
 use Rattle.algebra.specs.Divisibility.{minus, Divides, IsUnit, Coprime, Squarefree}
-use Rattle.algebra.proofs.Ring.{add_assoc, add_comm, mul_assoc, mul_comm, mul_left_comm, mul-one, one-mul, mul-zero, mul_add, mul_neg, eq_sub}
+use Rattle.algebra.proofs.Ring.{mul_assoc, mul_comm, mul_left_comm, mul-one, one-mul, mul-zero, mul_add, mul_neg, eq_sub}
 
 module _ {R : Type 0} (𝓡 : CommRing R) where
   open 𝓡 use {add as ◌+◌, mul as ◌*◌, zero as 𝟘, neg, one as 𝟙}

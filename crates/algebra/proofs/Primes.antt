@@ -3,11 +3,11 @@
 use mathlib.Core.Path.{◌≡◌, refl, sym, ap, ◌∙◌, subst}
 use mathlib.Core.Logic.{◌⊎◌, inl, inr, ◌≢◌}
 use mathlib.Core.Bool.{true}
-use Rattle.algebra.specs.Divisibility.{minus, Divides, IsUnit, Irreducible, Coprime, Squarefree, GreatestCommonDivisor}
+use Rattle.algebra.specs.Divisibility.{Divides, IsUnit, Irreducible, Coprime, GreatestCommonDivisor}
 use Rattle.algebra.specs.Euclidean.{Euclidean, EuclideanLaws}
 use Rattle.algebra.proofs.Ring.{mul_assoc, mul_comm, mul_left_comm, mul-one, one-mul, mul_add, add_mul, zero-mul}
-use Rattle.algebra.proofs.Divides.{divides_self, divides_trans, divides_eq, divides_left, divides_right, divides_mul, divides_mul_left, divides_add, divides_product, unit_divides, divisor_of_unit, one_unit, inverse_unit, unit_product, unit_multiple_divides, squarefree_coprime, coprime_symmetric}
-use Rattle.algebra.proofs.Bezout.{cancel, factor_nonzero, divisor_nonzero, unit_nonzero, unit_decided, Bezout, bezout, bezout_greatest}
+use Rattle.algebra.proofs.Divides.{divides_self, divides_trans, divides_eq, divides_left, divides_mul_left, divides_add, divides_product, divisor_of_unit, one_unit, unit_multiple_divides, coprime_symmetric}
+use Rattle.algebra.proofs.Bezout.{cancel, divisor_nonzero, unit_decided, Bezout, bezout, bezout_greatest}
 
 module _ {R : Type 0} {E : Euclidean R} (L : EuclideanLaws E) where
   open E.ring use {add as ◌+◌, mul as ◌*◌, zero as 𝟘, one as 𝟙}

@@ -1,5 +1,5 @@
 -- The laws of a commutative ring under short names, and what follows from them alone. Assumes nothing.
-use mathlib.Core.Path.{◌≡◌, refl, sym, ap, ◌∙◌}
+use mathlib.Core.Path.{◌≡◌, sym, ap, ◌∙◌}
 use mathlib.Mathlib.Algebra.Ring.Defs.{CommRing}
 use Rattle.algebra.specs.Divisibility.{minus}
 

@@ -1,7 +1,7 @@
 -- Commutative rings with decided equality and division with remainder, over any carrier. Assumes nothing.
 use Rattle.std.specs.Prelude.{◌≡◌, Bool, true, ◌⊎◌, ◌≢◌, ℕ, ◌<◌, ◌≤◌}
 use mathlib.Mathlib.Algebra.Ring.Defs.{CommRing}
-use Rattle.algebra.specs.Divisibility.{Divides, IsUnit}
+use Rattle.algebra.specs.Divisibility.{IsUnit}
 
 -- what such a ring has: its operations, decided equality, a size (which means nothing at 0), and
 -- which elements are called normal

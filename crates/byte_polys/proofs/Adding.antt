@@ -1,5 +1,5 @@
 -- Adding c·x^k·b, coefficient by coefficient, adds that polynomial. Assumes nothing.
-use Rattle.std.proofs.Common.{◌≡◌, ℕ, zero, ◌+◌, ◌-◌, ◌*◌, ◌<◌, ◌≤◌, List, get_or, sym, ap, ◌∙◌, subst, ap₂, arith}
+use Rattle.std.proofs.Common.{◌≡◌, ℕ, ◌+◌, ◌-◌, ◌*◌, ◌<◌, ◌≤◌, List, get_or, sym, ap, ◌∙◌, subst, ap₂, arith}
 use native.Mathlib.Nat as Nat
 use native.Mathlib.Decide.{dec_le, dec_lt}
 use Rattle.algebra.specs.Field.{Field}

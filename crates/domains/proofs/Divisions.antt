@@ -1,7 +1,7 @@
 -- The laws of the chain hold. Assumes nothing.
-use Rattle.std.proofs.Common.{◌≡◌, ℕ, suc, ◌<◌, Bool, true, ◌&&◌, ◌≢◌, ◌⊎◌, MatchBool, sym, refl, ap, ◌∙◌, subst, inl, inr, arith}
+use Rattle.std.proofs.Common.{◌≡◌, ℕ, Bool, true, ◌&&◌, MatchBool, sym, ap, ◌∙◌}
 use mathlib.Mathlib.Algebra.Ring.Defs.{CommRing}
-use Rattle.algebra.specs.Divisibility.{minus, Divides, Congruent}
+use Rattle.algebra.specs.Divisibility.{minus, Congruent}
 use Rattle.algebra.specs.Euclidean.{Division}
 use Rattle.algebra.proofs.Ring.{add_comm, mul_assoc, one-mul, add_mul, neg_mul, sub_eq, zero-add, neg_neg, sub_self}
 use Rattle.algebra.proofs.Divides.{divides_self, divides_zero, divides_eq}

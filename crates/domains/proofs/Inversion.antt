@@ -1,13 +1,13 @@
 -- The laws of Euclid's answer hold. Assumes nothing.
-use Rattle.std.proofs.Common.{◌≡◌, ℕ, Bool, true, false, cond, ◌&&◌, MatchBool, sym, refl, ap, ◌∙◌, subst}
+use Rattle.std.proofs.Common.{◌≡◌, ℕ, Bool, true, false, cond, ◌&&◌, MatchBool, sym, refl, ap, ◌∙◌}
 use Rattle.algebra.specs.Divisibility.{Divides}
 use Rattle.domains.specs.Answers.{Residue, IsZero, Normalized, Zeros, NormalMultiple, difference, sum, times}
 use Rattle.domains.specs.Chain.{Dividing, Found}
 use Rattle.domains.specs.Euclid.{is_zero, has_inverse, has_factor}
 use Rattle.domains.specs.EuclidLaws.{Answered, Reduced, Concluding, EuclidLaws}
 use Rattle.domains.specs.Meaning.{Meaning, Laws, legal_word}
-use Rattle.domains.specs.declared.gcd.Answer.TheVariants.{Zero, Inverse, Factor}
-use Rattle.domains.proofs.Calls.{when_true, when_each, at_true, both, and_left, and_right, answer_residue, legal_element, illegal_element, own_since_nonzero, reduced_congruent, zero_reduced, reduced_zero}
+use Rattle.domains.specs.declared.gcd.Answer.TheVariants.{Inverse, Factor}
+use Rattle.domains.proofs.Calls.{when_true, when_each, at_true, both, and_right, answer_residue, legal_element, illegal_element, own_since_nonzero, reduced_congruent, reduced_zero}
 use Rattle.domains.proofs.Outcomes.{only, descended_congruent, answers_factor, answers_inverse}
 use Rattle.algebra.proofs.Congruence.{congruent_divides}
 use Rattle.algebra.proofs.Divides.{divides_self, divides_zero, divides_eq}

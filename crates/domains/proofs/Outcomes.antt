@@ -1,9 +1,8 @@
 -- Euclid's answer is the only one that its definition admits, and the end of the chain gives it. Assumes nothing.
-use Rattle.std.proofs.Common.{◌≡◌, ℕ, true, false, ◌≢◌, sym, refl, ap, ◌∙◌, subst}
+use Rattle.std.proofs.Common.{◌≡◌, ℕ, true, sym, refl, ap, ◌∙◌, subst}
 use mathlib.Mathlib.Algebra.Ring.Defs.{CommRing}
-use Rattle.algebra.specs.Divisibility.{minus, Divides, IsUnit, Congruent, GreatestCommonDivisor}
-use Rattle.algebra.specs.Euclidean.{Euclidean, EuclideanLaws}
-use Rattle.algebra.proofs.Ring.{mul_assoc, mul_comm, mul_left_comm, mul-one, one-mul}
+use Rattle.algebra.specs.Divisibility.{Divides, IsUnit, Congruent, GreatestCommonDivisor}
+use Rattle.algebra.proofs.Ring.{mul_comm, mul_left_comm, mul-one}
 use Rattle.algebra.proofs.Divides.{divides_self, divides_trans, divides_eq, divides_mul, divides_mul_left, unit_multiple_divides}
 use Rattle.algebra.proofs.Congruence.{congruent_eq, congruent_self, congruent_symmetric, congruent_trans, congruent_mul, congruent_product, congruent_divides}
 use Rattle.algebra.proofs.Bezout.{unit_decided}
@@ -11,7 +10,7 @@ use Rattle.algebra.proofs.Primes.{normal_unit, normal_gcd_unique}
 use Rattle.domains.specs.Meaning.{Meaning, Laws, residue}
 use Rattle.domains.specs.Answers.{NormalMultiple}
 use Rattle.domains.specs.Euclid.{Descended, Outcome, is_zero, has_inverse, has_factor, InverseWord, FactorWord, Answers, Only}
-use Rattle.domains.proofs.Remainders.{remainder_congruent, congruent_remainder, remainder_congruent_both, remainder_twice, residue_element, residue_congruent, zero_divides, divides_zero_remainder}
+use Rattle.domains.proofs.Remainders.{remainder_congruent, congruent_remainder, remainder_congruent_both, remainder_twice, residue_element}
 
 module _ {M : Meaning} (L : Laws M) {m : M.Element} (legal : M.legal m ≡ true) (a : M.Element) where
   open M.euclidean.ring use {mul as ◌*◌, zero as 𝟘, one as 𝟙}

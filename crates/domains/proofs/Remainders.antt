@@ -1,9 +1,9 @@
 -- What the laws say of remainders: congruent elements have the same remainder, and a remainder is its own. Assumes nothing.
-use Rattle.std.proofs.Common.{◌≡◌, true, sym, refl, ap, ◌∙◌, subst}
+use Rattle.std.proofs.Common.{◌≡◌, true, sym, ap, ◌∙◌}
 use Rattle.algebra.specs.Divisibility.{Divides, Congruent}
-use Rattle.algebra.proofs.Ring.{sub_self, neg_zero, add-zero}
+use Rattle.algebra.proofs.Ring.{neg_zero, add-zero}
 use Rattle.algebra.proofs.Divides.{divides_eq}
-use Rattle.algebra.proofs.Congruence.{congruent_symmetric, congruent_trans, congruent_eq}
+use Rattle.algebra.proofs.Congruence.{congruent_trans, congruent_eq}
 use Rattle.domains.specs.Meaning.{Meaning, Laws, residue}
 
 module _ {M : Meaning} (L : Laws M) {m : M.Element} (legal : M.legal m ≡ true) where

@@ -1,16 +1,16 @@
 -- Why a modulus splits into two halves by a proper factor. Assumes nothing.
-use Rattle.std.proofs.Common.{◌≡◌, ℕ, zero, suc, ◌<◌, ◌≤◌, Bool, true, false, cond, ◌&&◌, ◌≢◌, ◌⊎◌, List, [], ◌∷◌, length, MatchBool, sym, refl, ap, ◌∙◌, subst, inl, inr, arith, eq-eqb}
+use Rattle.std.proofs.Common.{◌≡◌, ℕ, zero, suc, ◌≤◌, Bool, true, false, cond, ◌&&◌, ◌≢◌, ◌⊎◌, List, [], ◌∷◌, length, MatchBool, sym, refl, ap, ◌∙◌, subst, inl, inr, arith, eq-eqb}
 use mathlib.Mathlib.Algebra.Ring.Defs.{CommRing}
 use Rattle.algebra.specs.Divisibility.{Divides, IsUnit, Irreducible, Coprime, Squarefree, product, NonUnits}
 use Rattle.algebra.specs.Euclidean.{Division}
 use Rattle.algebra.proofs.Ring.{mul_comm, mul_assoc, mul_left_comm, mul-one, one-mul, zero-mul, add-zero}
-use Rattle.algebra.proofs.Divides.{divides_self, divides_eq, divides_trans, divides_left, divides_right, unit_multiple_divides, squarefree_divisor, squarefree_coprime, inverse_unit}
+use Rattle.algebra.proofs.Divides.{divides_self, divides_eq, divides_trans, divides_left, divides_right, unit_multiple_divides, squarefree_divisor, squarefree_coprime}
 use Rattle.algebra.proofs.Bezout.{cancel, divisor_nonzero, divisor_size, zero_no_unit, divides_remainder}
 use Rattle.algebra.proofs.Primes.{irreducible_prime}
-use Rattle.domains.specs.Meaning.{Meaning, Laws, SquarefreeModulus, legal_word}
+use Rattle.domains.specs.Meaning.{Meaning, Laws, SquarefreeModulus}
 use Rattle.domains.specs.Answers.{Divided, IsZero, Zeros, zero_word}
 use Rattle.domains.specs.Split.{ProperFactor, Halved, SplitInto}
-use Rattle.domains.specs.SplitLaws.{Splitting, Exact, SplitLaws}
+use Rattle.domains.specs.SplitLaws.{Splitting, SplitLaws}
 use Rattle.domains.proofs.Calls.{both, and_left, and_right, when_true, when_false, legal_element}
 
 module _ {M : Meaning} (L : Laws M) where

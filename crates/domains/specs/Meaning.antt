@@ -1,5 +1,5 @@
 -- What a domain means, and the laws that it keeps. A word is a whole number below 2^64. Assumes nothing.
-use Rattle.std.specs.Prelude.{◌≡◌, ℕ, ◌^◌, ◌<◌, ◌≤◌, Bool, true, ◌&&◌, ◌↔◌, List, length, ◌==◌}
+use Rattle.std.specs.Prelude.{◌≡◌, ℕ, ◌≤◌, Bool, true, ◌&&◌, ◌↔◌, List, length, ◌==◌}
 use Rattle.algebra.specs.Divisibility.{minus, Divides, IsUnit, Squarefree, product, NonUnits}
 use Rattle.algebra.specs.Euclidean.{Euclidean, EuclideanLaws}
 

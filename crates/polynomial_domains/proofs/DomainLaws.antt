@@ -1,22 +1,20 @@
 -- The domains of polynomials keep the laws. Assumes nothing.
-use mathlib.Core.Path.{◌≡◌, refl, sym, ap, ◌∙◌, subst}
-use mathlib.Core.Bool.{Bool, true, false, ◌&&◌}
+use mathlib.Core.Path.{◌≡◌, sym, ap, ◌∙◌, subst}
+use mathlib.Core.Bool.{true, ◌&&◌}
 use mathlib.Core.Logic.{◌≢◌}
-use mathlib.Core.List.{List}
 use Prim.Native.Nat.{ℕ, ◌≤◌}
 use native.Mathlib.Omega.{arith}
 use borrow.Author.Tests.{leb-true, le-leb}
 use lib.Dec.{leb}
-use lib.ListN.{length}
-use Rattle.algebra.specs.Divisibility.{Divides, IsUnit, NonUnits, product}
+use Rattle.algebra.specs.Divisibility.{Divides}
 use Rattle.algebra.specs.Field.{Field}
 use Rattle.algebra.proofs.Bezout.{divisor_nonzero}
 use Rattle.domains.specs.Meaning.{Laws}
 use Rattle.domains.proofs.Calls.{both, and_left, and_right}
-use Rattle.polynomials.specs.Polynomial.{Polynomial, zero_polynomial, degree, monic, times}
+use Rattle.polynomials.specs.Polynomial.{Polynomial, zero_polynomial, degree, monic}
 use Rattle.polynomial_domains.specs.PolynomialDomain.{legal, polynomial_domain}
 use Rattle.polynomials.specs.Words.{Digits}
-use Rattle.polynomials.proofs.Euclidean.{polynomials, polynomial_laws}
+use Rattle.polynomials.proofs.Euclidean.{polynomial_laws}
 use Rattle.polynomials.proofs.Ring.{polynomial_ring}
 use Rattle.polynomials.proofs.Units.{degree_left, monic_leading, monic_not_zero, unit_degree}
 use Rattle.polynomials.proofs.Products.{non_unit_degree, product_degree}

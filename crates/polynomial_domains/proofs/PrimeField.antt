@@ -12,7 +12,7 @@ use Rattle.integers.specs.Ring.{ring}
 use Rattle.polynomials.specs.Perfect.{Perfect}
 use Rattle.polynomials.specs.Sequence.{multiple}
 use Rattle.polynomials.proofs.Characteristic.{field_characteristic, multiples_perfect}
-use Rattle.polynomial_domains.specs.PrimeField.{prime_low, positive_prime, modulo, Modular, modular, prime_field, modular_number}
+use Rattle.polynomial_domains.specs.PrimeField.{positive_prime, modulo, Modular, modular, prime_field, modular_number}
 use Rattle.polynomial_domains.specs.Primes.{prime}
 
 module _ (p : ℕ) (is_prime : prime p ≡ true) where

@@ -1,23 +1,21 @@
 -- The field of the residues of whole numbers modulo a prime p, and how its elements are written as digits: the digit n
 -- stands for the residue of n, and an element is written as its number from 0 to p − 1. Assumes nothing.
-use Rattle.std.specs.Prelude.{◌≡◌, refl, Bool, true, false, ◌&&◌, ◌||◌, not, ◌≢◌, ℕ, zero, suc, ◌+◌, ◌*◌, ◌%◌, ◌<◌, ◌≤◌, leb, ltb, eqb, ℤ, pos, negsuc, nat_abs, ◌*ℤ◌}
+use Rattle.std.specs.Prelude.{◌≡◌, true, false, ◌||◌, not, ◌≢◌, ℕ, zero, suc, ◌*◌, ◌%◌, ◌<◌, ◌≤◌, leb, ltb, eqb, pos, nat_abs, ◌*ℤ◌}
 use Rattle.std.proofs.Common.{sym, ap, ◌∙◌, subst, inl, inr, arith, eq-or-lt_of_le, le_of_suc-le-suc}
 use Rattle.std.proofs.Math.Nat as Nat
 use borrow.Author.Tests.{leb-true, le-ltb, eq-eqb, clash}
 use Rattle.std.proofs.Math.IntN.{zero-*ℤ, *ℤ-zero}
-use Rattle.algebra.specs.Divisibility.{IsUnit, Irreducible}
+use Rattle.algebra.specs.Divisibility.{Irreducible}
 use Rattle.algebra.specs.Field.{Field}
 use Rattle.algebra.specs.Residues.{Remainders, Residue}
 use Rattle.algebra.proofs.Residues.{residue, residue_field, residues_equal}
-use Rattle.algebra.proofs.Bezout.{factor_nonzero}
-use Rattle.algebra.proofs.Ring.{mul_comm}
 use Rattle.domains.proofs.Calls.{and_left, and_right}
-use Rattle.integers.specs.Integers.{integers, wrapped}
+use Rattle.integers.specs.Integers.{integers}
 use Rattle.integers.specs.Ring.{ring}
 use Rattle.integers.specs.Laws.{lawful}
 use Rattle.integers.specs.Moduli.{non_unit_abs, abs_non_unit}
 use Rattle.integers.specs.Remainders.{wrapped_below, wrapped_differs, wrapped_equal}
-use Rattle.integers.specs.Sizes.{abs_mul, abs_nonzero, nonzero}
+use Rattle.integers.specs.Sizes.{abs_mul, nonzero}
 use Rattle.polynomials.specs.Words.{Digits}
 use Rattle.polynomial_domains.specs.Primes.{undivided, prime}
 

@@ -1,5 +1,5 @@
 -- The first cells of a task, by their number. Assumes nothing.
-use Rattle.std.proofs.Common.{◌≡◌, ℕ, zero, suc, List, [], ◌∷◌, map, length, refl, ap}
+use Rattle.std.proofs.Common.{◌≡◌, ℕ, zero, suc, ◌∷◌, map, length, refl, ap}
 use Rattle.tasks.specs.Machine.{listed}
 
 -- the first n cells, mapped

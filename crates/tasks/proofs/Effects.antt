@@ -1,18 +1,17 @@
 -- What commands do modulo m: at most one thing, modulo an irreducible always one, and the same modulo a divisor of m.
 -- Assumes nothing.
-use Rattle.std.proofs.Common.{◌≡◌, ℕ, ◌<◌, true, ◌⊎◌, List, map, length, get_or, set, sym, refl, ap, ◌∙◌, subst, inl, inr, arith}
+use Rattle.std.proofs.Common.{◌≡◌, ℕ, ◌<◌, true, ◌⊎◌, List, map, length, set, sym, refl, ap, ◌∙◌, subst, inl, inr, arith}
 use mathlib.Mathlib.Algebra.Ring.Defs.{CommRing}
 use Rattle.std.proofs.lemmas.List.{get_or-map, map-set}
-use Rattle.algebra.specs.Divisibility.{Divides, IsUnit, Irreducible, Coprime, Congruent}
-use Rattle.algebra.proofs.Ring.{mul_comm, sub_eq, add_comm, add-zero, neg_zero}
-use Rattle.algebra.proofs.Divides.{divides_self, divides_eq, divides_trans, divides_mul, divides_right}
+use Rattle.algebra.specs.Divisibility.{Divides, Irreducible, Coprime, Congruent}
+use Rattle.algebra.proofs.Ring.{mul_comm, sub_eq, add_comm}
+use Rattle.algebra.proofs.Divides.{divides_self, divides_trans, divides_mul}
 use Rattle.algebra.proofs.Congruence.{congruent_eq, congruent_self, congruent_symmetric, congruent_trans, congruent_add, congruent_sub, congruent_product, congruent_mul, congruent_divisor, congruent_divides}
 use Rattle.algebra.proofs.Primes.{irreducible_or, coprime_sum}
 use Rattle.domains.specs.Answers.{sum, difference, times}
-use Rattle.domains.specs.Euclid.{InverseWord}
 use Rattle.domains.specs.Meaning.{Meaning, Laws, residue}
 use Rattle.domains.proofs.Outcomes.{inverse_unique}
-use Rattle.domains.proofs.Remainders.{congruent_remainder, remainder_congruent, remainder_congruent_both, remainder_twice, residue_element, residue_congruent, divides_zero_remainder}
+use Rattle.domains.proofs.Remainders.{congruent_remainder, remainder_congruent_both, remainder_twice, residue_element, residue_congruent}
 use Rattle.tasks.specs.Commands.{Allowed}
 use Rattle.tasks.specs.Machine.{Effect, moves, ends, cell, ZeroCell, InverseOf, Does}
 use Rattle.tasks.specs.declared.command.Command.{Command}

@@ -1,6 +1,6 @@
 -- Steps and runs of the machine: at most one state after as many steps, and a row of the machine modulo m, reduced by a
 -- divisor of m, is the machine modulo that divisor. Assumes nothing.
-use Rattle.std.proofs.Common.{◌≡◌, ℕ, zero, suc, true, ◌⊎◌, List, map, length, set, None, sym, refl, ap, ◌∙◌, subst, inl, inr, length-set}
+use Rattle.std.proofs.Common.{◌≡◌, ℕ, zero, true, List, length, set, None, sym, refl, ap, ◌∙◌, subst, inl, inr, length-set}
 use mathlib.Core.Path.{fun_ext}
 use Rattle.algebra.specs.Divisibility.{Divides, Irreducible}
 use Rattle.algebra.proofs.Congruence.{congruent_self}

@@ -1,6 +1,6 @@
 -- The machine that runs a task modulo m: the field machine where m is an irreducible g, and a row of a case book at the
 -- row's own modulus. Assumes nothing.
-use Rattle.std.specs.Prelude.{◌≡◌, ℕ, zero, suc, true, cond, ◌⊎◌, List, [], ◌∷◌, map, Some, None, Option, ◌==◌, slice_index, slice_set}
+use Rattle.std.specs.Prelude.{◌≡◌, ℕ, zero, suc, cond, ◌⊎◌, List, [], ◌∷◌, map, Some, None, Option, ◌==◌, slice_index, slice_set}
 use Rattle.algebra.specs.Divisibility.{Divides}
 use Rattle.domains.specs.Answers.{sum, difference, times}
 use Rattle.domains.specs.Euclid.{InverseWord}

@@ -1,6 +1,6 @@
 use Rattle.std.proofs.Common.{◌≡◌, eqb, sym, ◌∙◌, subst}
 use Rattle.std.specs.List.{IsAnyAnswer}
-use Rattle.byte_polys.specs.Listed.{listed, listed_same, listed_low, listed_high}
+use Rattle.byte_polys.specs.Listed.{listed_same, listed_low, listed_high}
 use Rattle.byte_polys.proofs.ListedPrimes.{contains_listed}
 use Rattle.byte_polys.proofs.primes.is_listed.Goals as goal
 
