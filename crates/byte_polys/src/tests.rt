@@ -104,16 +104,23 @@ fn quotients(rt: HostRuntime) -> Result<(), Fail> {
     let (quotient, remainder) = d.divide_modulus(m, a);
     assert_eq!(rt; d.word_of(quotient), 0x0303);
     assert_eq!(rt; d.word_of(remainder), 2);
-    let (quotient, remainder) = d.divide_modulus(m, zero);
-    assert!(rt; d.is_zero(quotient));
-    assert_eq!(rt; d.word_of(remainder), 65537);
     let (quotient, remainder) = d.divide(a, zero);
     assert!(rt; d.is_zero(quotient));
     assert_eq!(rt; d.word_of(remainder), 0x0203);
     Ok(())
 }
 
-// A value and a modulus over GF(7) in the domain over GF(5).
+#[test]
+fn quotients_of_a_modulus_by_zero(rt: HostRuntime) -> Result<(), Fail> {
+    let d = over(5)?;
+    let m = modulo(d, 65537)?;
+    let (quotient, remainder) = d.divide_modulus(m, d.residue(0, m));
+    assert!(rt; d.is_zero(quotient));
+    assert_eq!(rt; d.word_of(remainder), 65537);
+    Ok(())
+}
+
+// A value over GF(7) in the domain over GF(5).
 #[test]
 fn foreign_values(rt: HostRuntime) -> Result<(), Fail> {
     let seven = over(7)?;
@@ -126,6 +133,18 @@ fn foreign_values(rt: HostRuntime) -> Result<(), Fail> {
     assert!(rt; !five.is_zero(seven.residue(0, m)));
     assert_eq!(rt; five.word_of(five.add(a, b, n)), 0);
     assert_eq!(rt; five.word_of(five.residue(3, m)), 0);
+    Ok(())
+}
+
+// A value and a modulus over GF(7), divided in the domain over GF(5).
+#[test]
+fn foreign_quotients(rt: HostRuntime) -> Result<(), Fail> {
+    let seven = over(7)?;
+    let five = over(5)?;
+    let m = modulo(seven, 65537)?;
+    let n = modulo(five, 65537)?;
+    let a = seven.residue(3, m);
+    let b = five.residue(3, n);
     assert_eq!(rt; five.word_of_modulus(m), 0);
     assert!(rt; zeros(five, five.divide(a, b)));
     assert!(rt; zeros(five, five.divide(b, a)));

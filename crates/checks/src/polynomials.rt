@@ -25,7 +25,9 @@ fn euclid_over_bit_polynomials(rt: HostRuntime) {
 
 #[test]
 fn euclid_over_byte_polynomials(rt: HostRuntime) -> Result<(), Fail> {
-    let domain = over(5)?;
+    let Ok(domain) = BytePolys::new(5) else {
+        return Err(Fail::new("5 is a listed prime"));
+    };
     assert_eq!(rt; factor(&domain, 513, 65537), Some(259));
     assert!(rt; is_zero(&domain, 65537, 65537));
     assert_eq!(rt; inverse(&domain, 2, 65537), Some(3));

@@ -58,14 +58,22 @@ fn quotients(rt: HostRuntime) -> Result<(), Fail> {
     let (quotient, remainder) = Integers.divide_modulus(m, two);
     assert_eq!(rt; Integers.word_of(quotient), 3);
     assert_eq!(rt; Integers.word_of(remainder), 1);
-    let (quotient, remainder) = Integers.divide_modulus(m, zero);
-    assert_eq!(rt; Integers.word_of(quotient), 0);
-    assert_eq!(rt; Integers.word_of(remainder), 7);
     let (quotient, remainder) = Integers.divide(two, zero);
     assert_eq!(rt; Integers.word_of(quotient), 0);
     assert_eq!(rt; Integers.word_of(remainder), 2);
     let (normal, unit) = Integers.normalize(zero);
     assert_eq!(rt; Integers.word_of(normal), 0);
     assert_eq!(rt; Integers.word_of(unit), 1);
+    Ok(())
+}
+
+#[test]
+fn quotients_of_a_modulus_by_zero(rt: HostRuntime) -> Result<(), Fail> {
+    let Some(m) = Integers.modulus(7) else {
+        return Err(Fail::new("7 is squarefree"));
+    };
+    let (quotient, remainder) = Integers.divide_modulus(m, Integers.residue(0, m));
+    assert_eq!(rt; Integers.word_of(quotient), 0);
+    assert_eq!(rt; Integers.word_of(remainder), 7);
     Ok(())
 }
