@@ -4,6 +4,6 @@
 #[cfg(test)]
 mod asked;
 #[cfg(test)]
-mod polynomials;
+mod over_polynomials;
 #[cfg(test)]
 mod whole_numbers;

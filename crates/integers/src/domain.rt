@@ -1,12 +1,11 @@
 // The domain. Every value and every modulus of its types is its own.
-ghost use Rattle.std.specs.Prelude.{true};
+ghost use Rattle.std.specs.Prelude.{true, refl};
 ghost use Rattle.domains.specs.Answers.{Decides};
 ghost use Rattle.domains.specs.Meaning.{SquarefreeModulus};
 ghost use Rattle.integers.specs.Integers.{integers};
 ghost use Rattle.integers.specs.Squarefree.{ModulusWord};
 ghost use Rattle.integers.specs.Laws;
 ghost use Rattle.integers.specs.SquarefreeNumbers.{squarefree_modulus};
-ghost use Rattle.std.proofs.Common.{rules};
 
 use crate::arithmetic::{normal_multiple, quotient_and_remainder, reduce, reduce_difference};
 use crate::squarefree::no_square_divides;
@@ -46,7 +45,7 @@ impl Domain for Integers {
 
     ghost lawful = { λ d. Laws.lawful };
 
-    ghost spelled = { Prim.search rules };
+    ghost spelled = { λ d a e. refl };
 
     ghost sound = { λ d m e. squarefree_modulus m.word (record { large = m.large; small = m.small; free = m.free }) };
 
