@@ -2,11 +2,11 @@
 -- greatest common divisor that is a sum of multiples of the two (Bézout), and so an irreducible that divides a product
 -- divides a factor. Everything is proved from `EuclideanLaws`. Assumes nothing.
 use mathlib.Core.Path.{◌≡◌, refl, sym, ap, ◌∙◌, subst}
-use mathlib.Core.Logic.{inl, inr, ◌≢◌}
+use mathlib.Core.Logic.{inl, inr, ◌≢◌, ◌↔◌}
 use Prim.Native.Nat.{ℕ, zero, suc, ◌<◌, ◌≤◌}
 use native.Mathlib.Omega.{arith}
 use native.Mathlib.Decide.{ℕ_discrete}
-use Rattle.algebra.specs.Divisibility.{minus, Divides, IsUnit, GreatestCommonDivisor}
+use Rattle.algebra.specs.Divisibility.{minus, Divides, IsUnit, Squarefree, NoSquareDivides, GreatestCommonDivisor}
 use Rattle.algebra.specs.Euclidean.{Euclidean, EuclideanLaws, Division}
 use Rattle.algebra.proofs.Ring.{add_left_comm, add-zero, mul_assoc, mul_comm, one-mul, mul-zero, zero-mul, mul_add, add_mul, mul_neg, neg_mul, sub_eq, sub_zero_eq}
 use Rattle.algebra.proofs.Divides.{divides_self, divides_zero, divides_eq, divides_mul_left, divides_add, divides_sub, one_divides}
@@ -77,6 +77,13 @@ module _ {R : Type 0} {E : Euclidean R} (L : EuclideanLaws E) where
       go (yes z) s = no (λ p. unit_nonzero p z)
       go (no n) (yes s) = yes (size_unit a n s)
       go (no n) (no s) = no (λ p. s (unit_size p))
+
+  -- so an element is squarefree exactly when no square of a non-unit divides it
+  pub squarefree_iff_no_square : (a : R) → Squarefree E.ring a ↔ NoSquareDivides E.ring a
+  squarefree_iff_no_square a = (
+    λ s d p n. n (s d p),
+    λ f d p. elim (unit_decided d) [ yes u ↦ u | no n ↦ absurd (f d p n) ],
+  )
 
   -- what divides the divisor and the dividend divides the remainder, and the other way round
   pub divides_remainder : {a b q r d : R} → Division E a b q r → d ∣ a → d ∣ b → d ∣ r

@@ -34,6 +34,10 @@ module _ {R : Type 0} (𝓡 : CommRing R) where
   abbrev pub Squarefree : R → Type 0
   Squarefree a = (d : R) → Divides (𝓡.mul d d) a → IsUnit d
 
+  -- the same where it is decided which elements are units: the square of a non-unit does not divide it
+  abbrev pub NoSquareDivides : R → Type 0
+  NoSquareDivides a = (d : R) → Divides (𝓡.mul d d) a → ¬ IsUnit d → ⊥
+
   -- the product of a list, 1 for the empty one
   abbrev pub product : List R → R
   product [] = 𝓡.one
