@@ -4,13 +4,12 @@ use mathlib.Core.Bool.{true, ◌&&◌}
 use mathlib.Core.Logic.{◌≢◌}
 use Prim.Native.Nat.{ℕ, ◌≤◌}
 use native.Mathlib.Omega.{arith}
-use borrow.Author.Tests.{leb-true, le-leb}
+use Rattle.std.proofs.lemmas.Bool.{and_parts, and_from, leb-true, le-leb}
 use lib.Dec.{leb}
 use Rattle.algebra.specs.Divisibility.{Divides}
 use Rattle.algebra.specs.Field.{Field}
 use Rattle.algebra.proofs.Bezout.{divisor_nonzero}
 use Rattle.domains.specs.Meaning.{Laws}
-use Rattle.domains.proofs.Calls.{both, and_left, and_right}
 use Rattle.polynomials.specs.Polynomial.{Polynomial, zero_polynomial, degree, monic}
 use Rattle.polynomial_domains.specs.PolynomialDomain.{legal, polynomial_domain}
 use Rattle.polynomials.specs.Words.{Digits}
@@ -23,21 +22,24 @@ use Rattle.polynomials.proofs.Words.{from_word_to_word}
 
 module _ {K : Type 0} (𝓚 : Field K) (d : Digits 𝓚) (n : ℕ) where
   -- what legal says
-  pub legal_monic : (m : Polynomial 𝓚) → legal 𝓚 d n m ≡ true → monic 𝓚 m ≡ true
-  legal_monic m l = and_left (monic 𝓚 m) (leb 1 (degree 𝓚 m) && leb (degree 𝓚 m) n) l
+  legal_parts : (m : Polynomial 𝓚) → legal 𝓚 d n m ≡ true → (monic 𝓚 m ≡ true) × (leb 1 (degree 𝓚 m) ≡ true) × (leb (degree 𝓚 m) n ≡ true)
+  legal_parts m l =
+      let (c, bounds) = and_parts (monic 𝓚 m) (leb 1 (degree 𝓚 m) && leb (degree 𝓚 m) n) l in
+      let (low, high) = and_parts (leb 1 (degree 𝓚 m)) (leb (degree 𝓚 m) n) bounds in
+      (c, low, high)
 
-  legal_bounds : (m : Polynomial 𝓚) → legal 𝓚 d n m ≡ true → (leb 1 (degree 𝓚 m) && leb (degree 𝓚 m) n) ≡ true
-  legal_bounds m l = and_right (monic 𝓚 m) (leb 1 (degree 𝓚 m) && leb (degree 𝓚 m) n) l
+  pub legal_monic : (m : Polynomial 𝓚) → legal 𝓚 d n m ≡ true → monic 𝓚 m ≡ true
+  legal_monic m l = (legal_parts m l).0
 
   pub legal_low : (m : Polynomial 𝓚) → legal 𝓚 d n m ≡ true → 1 ≤ degree 𝓚 m
-  legal_low m l = leb-true 1 (degree 𝓚 m) (and_left (leb 1 (degree 𝓚 m)) (leb (degree 𝓚 m) n) (legal_bounds m l))
+  legal_low m l = leb-true 1 (degree 𝓚 m) (legal_parts m l).1
 
   pub legal_high : (m : Polynomial 𝓚) → legal 𝓚 d n m ≡ true → degree 𝓚 m ≤ n
-  legal_high m l = leb-true (degree 𝓚 m) n (and_right (leb 1 (degree 𝓚 m)) (leb (degree 𝓚 m) n) (legal_bounds m l))
+  legal_high m l = leb-true (degree 𝓚 m) n (legal_parts m l).2
 
   -- and what makes it
   pub legal_is : (m : Polynomial 𝓚) → monic 𝓚 m ≡ true → 1 ≤ degree 𝓚 m → degree 𝓚 m ≤ n → legal 𝓚 d n m ≡ true
-  legal_is m c low high = both c (both (le-leb 1 (degree 𝓚 m) low) (le-leb (degree 𝓚 m) n high))
+  legal_is m c low high = and_from _ _ c (and_from _ _ (le-leb 1 (degree 𝓚 m) low) (le-leb (degree 𝓚 m) n high))
 
   pub legal_not_zero : (m : Polynomial 𝓚) → legal 𝓚 d n m ≡ true → m ≢ zero_polynomial 𝓚
   legal_not_zero m l = monic_not_zero 𝓚 m (monic_leading 𝓚 m (legal_monic m l))

@@ -1,2 +1,4 @@
 pub mod DomainLaws
 pub mod PrimeField
+pub mod Derivatives
+pub mod Chain

@@ -1,3 +1,4 @@
 pub mod PolynomialDomain
 pub mod Primes
 pub mod PrimeField
+pub mod PerfectField

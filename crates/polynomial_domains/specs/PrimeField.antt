@@ -3,13 +3,13 @@
 use Rattle.std.specs.Prelude.{◌≡◌, true, false, ◌||◌, not, ◌≢◌, ℕ, zero, suc, ◌*◌, ◌%◌, ◌<◌, ◌≤◌, leb, ltb, eqb, pos, nat_abs, ◌*ℤ◌}
 use Rattle.std.proofs.Common.{sym, ap, ◌∙◌, subst, inl, inr, arith, eq-or-lt_of_le, le_of_suc-le-suc}
 use Rattle.std.proofs.Math.Nat as Nat
-use borrow.Author.Tests.{leb-true, le-ltb, eq-eqb, clash}
+use borrow.Author.Tests.{le-ltb, clash}
+use Rattle.std.proofs.lemmas.Bool.{and_parts, leb-true, eq-eqb}
 use Rattle.std.proofs.Math.IntN.{zero-*ℤ, *ℤ-zero}
 use Rattle.algebra.specs.Divisibility.{Irreducible}
 use Rattle.algebra.specs.Field.{Field}
 use Rattle.algebra.specs.Residues.{Remainders, Residue}
 use Rattle.algebra.proofs.Residues.{residue, residue_field, residues_equal}
-use Rattle.domains.proofs.Calls.{and_left, and_right}
 use Rattle.integers.specs.Integers.{integers}
 use Rattle.integers.specs.Ring.{ring}
 use Rattle.integers.specs.Laws.{lawful}
@@ -21,7 +21,7 @@ use Rattle.polynomial_domains.specs.Primes.{undivided, prime}
 
 -- what the test says
 pub prime_low : (p : ℕ) → prime p ≡ true → 2 ≤ p
-prime_low p h = leb-true 2 p (and_left (leb 2 p) (undivided p p) h)
+prime_low p h = leb-true 2 p (and_parts (leb 2 p) (undivided p p) h).0
 
 -- a number from 2 on that passed does not divide p
 step : (p n : ℕ) → (ltb n 2 || not (eqb (p % n) 0)) ≡ true → 2 ≤ n → p % n ≢ 0
@@ -33,9 +33,10 @@ step p n h low z =
 undivided_at : (p n k : ℕ) → undivided p n ≡ true → 2 ≤ k → k < n → p % k ≢ 0
 undivided_at p zero k h low high = absurd (omega arith)
 undivided_at p (suc n) k h low high =
+    let parts = and_parts (ltb n 2 || not (eqb (p % n) 0)) (undivided p n) h in
     elim (eq-or-lt_of_le (le_of_suc-le-suc high)) [
-      | inl e ↦ subst (λ j. p % j ≢ 0) (sym e) (step p n (and_left (ltb n 2 || not (eqb (p % n) 0)) (undivided p n) h) (subst (λ j. 2 ≤ j) e low))
-      | inr l ↦ undivided_at p n k (and_right (ltb n 2 || not (eqb (p % n) 0)) (undivided p n) h) low l
+      | inl e ↦ subst (λ j. p % j ≢ 0) (sym e) (step p n parts.0 (subst (λ j. 2 ≤ j) e low))
+      | inr l ↦ undivided_at p n k parts.1 low l
     ]
 
 module _ (p : ℕ) (is_prime : prime p ≡ true) where
@@ -45,7 +46,7 @@ module _ (p : ℕ) (is_prime : prime p ≡ true) where
   -- a factor of p that is no unit is p itself
   whole : (b c : ℕ) → b * c ≡ p → 2 ≤ b → 2 ≤ c → ⊥
   whole b c e low high =
-      undivided_at p p b (and_right (leb 2 p) (undivided p p) is_prime) low (subst (λ x. b < x) e below) (ap (λ x. x % b) (sym e) ∙ Nat.mul-mod_right b c)
+      undivided_at p p b (and_parts (leb 2 p) (undivided p p) is_prime).1 low (subst (λ x. b < x) e below) (ap (λ x. x % b) (sym e) ∙ Nat.mul-mod_right b c)
     where
       below : b < b * c
       below = let k : b * 2 ≤ b * c = Nat.mul-le-mul_left b high in omega arith
