@@ -1,5 +1,6 @@
 -- What the answers of a domain's calls mean where all arguments are its own. Assumes nothing.
-use Rattle.std.proofs.Common.{◌≡◌, ℕ, Bool, true, false, cond, ◌&&◌, eqb, None, MatchBool, Option, sym, refl, ap, ◌∙◌, subst, arith, eq-eqb, MatchOption}
+use Rattle.std.proofs.Common.{◌≡◌, ℕ, Bool, true, false, cond, ◌&&◌, eqb, None, MatchBool, Option, sym, refl, ap, ◌∙◌, subst, eq-eqb, MatchOption}
+use Rattle.std.proofs.lemmas.Bool.{and_from, and_parts, false≢true}
 use Rattle.algebra.specs.Divisibility.{Divides, Congruent}
 use Rattle.algebra.proofs.Ring.{sub_self, add-zero}
 use Rattle.algebra.proofs.Divides.{divides_self, divides_zero, divides_eq}
@@ -7,26 +8,6 @@ use Rattle.algebra.proofs.Congruence.{congruent_eq, congruent_symmetric, congrue
 use Rattle.domains.specs.Meaning.{Meaning, Laws, residue, legal_word}
 use Rattle.domains.specs.Answers.{Residue, IsZero, zero_word, sum, difference}
 use Rattle.domains.proofs.Remainders.{residue_element, residue_congruent, divides_zero_remainder}
-
-false_not_true : ¬ (false ≡ true)
-false_not_true p = let z : ◌≡◌ {A = ℕ} 0 1 = ap (λ b. cond b 1 0) p in omega arith
-
-pub when_true : {b : Bool} (P Q : Type 0) → b ≡ true → MatchBool b P Q → P
-when_true P Q e h = subst (λ x. MatchBool x P Q) e h
-
-pub when_false : {b : Bool} (P Q : Type 0) → b ≡ false → MatchBool b P Q → Q
-when_false P Q e h = subst (λ x. MatchBool x P Q) e h
-
-pub both : {x y : Bool} → x ≡ true → y ≡ true → (x && y) ≡ true
-both {x} {y} p q = ap (λ b. b && y) p ∙ q
-
-pub and_left : (x y : Bool) → (x && y) ≡ true → x ≡ true
-and_left true y p = refl
-and_left false y p = p
-
-pub and_right : (x y : Bool) → (x && y) ≡ true → y ≡ true
-and_right true y p = p
-and_right false y p = absurd (false_not_true p)
 
 -- a flag that is known to be true may stand in between
 pub and_between : (x y z : Bool) → y ≡ true → (x && z) ≡ false → ((x && y) && z) ≡ false
@@ -46,11 +27,11 @@ when_each false P Q f g = g refl
 
 -- a word that is a legal modulus has a legal element
 pub legal_element : (M : Meaning) (w : ℕ) → legal_word M w ≡ true → M.legal (M.element w) ≡ true
-legal_element M w p = and_left (M.legal (M.element w)) (eqb (M.word (M.element w)) w) p
+legal_element M w p = (and_parts (M.legal (M.element w)) (eqb (M.word (M.element w)) w) p).0
 
 -- and a canonical word that is no legal modulus has none
 pub illegal_element : (M : Meaning) (w : ℕ) → M.word (M.element w) ≡ w → legal_word M w ≡ false → ¬ (M.legal (M.element w) ≡ true)
-illegal_element M w spelled p l = false_not_true (sym p ∙ both l (eq-eqb _ _ spelled))
+illegal_element M w spelled p l = false≢true (sym p ∙ and_from _ _ l (eq-eqb _ _ spelled))
 
 -- the residue that a call answers
 pub answer_residue : (M : Meaning) (m : ℕ) {own : Bool} (a : M.Element) {r : ℕ} → own ≡ true → Residue M own m a r → r ≡ residue M (M.element m) a
@@ -84,13 +65,13 @@ module _ {M : Meaning} (L : Laws M) (m : ℕ) where
   module _ (x z : Bool) (a w r : ℕ) (own : (x && z) ≡ true) (legal : M.legal (M.element m) ≡ true) (zero_is : Residue M ((x && x) && z) m (difference M a a) w) (y : Bool) (own_zero : y ≡ true) (reduced_is : Residue M ((x && y) && z) m (sum M a w) r) where
     pub zero_element : IsZero M w
     zero_element =
-        answer_element L legal (difference M a a) (both (both (and_left x z own) (and_left x z own)) (and_right x z own)) zero_is
+        answer_element L legal (difference M a a) (and_from _ _ (and_from _ _ (and_parts x z own).0 (and_parts x z own).0) (and_parts x z own).1) zero_is
         ∙ ap (M.remainder (M.element m)) (sub_self M.euclidean.ring (M.element a))
         ∙ L.remainder_zero (M.element m) legal
 
     pub reduced_congruent : Congruent M.euclidean.ring (M.element m) (M.element a) (M.element r)
     reduced_congruent =
-        congruent_symmetric M.euclidean.ring (congruent_trans M.euclidean.ring (answer_congruent L legal (sum M a w) (both (both (and_left x z own) own_zero) (and_right x z own)) reduced_is) (congruent_eq M.euclidean.ring (ap (M.euclidean.ring.add (M.element a)) zero_element ∙ add-zero M.euclidean.ring (M.element a))))
+        congruent_symmetric M.euclidean.ring (congruent_trans M.euclidean.ring (answer_congruent L legal (sum M a w) (and_from _ _ (and_from _ _ (and_parts x z own).0 own_zero) (and_parts x z own).1) reduced_is) (congruent_eq M.euclidean.ring (ap (M.euclidean.ring.add (M.element a)) zero_element ∙ add-zero M.euclidean.ring (M.element a))))
 
     -- the reduced value is 0 exactly when m divides the value
     pub zero_reduced : IsZero M r → Divides M.euclidean.ring (M.element m) (M.element a)
@@ -98,5 +79,5 @@ module _ {M : Meaning} (L : Laws M) (m : ℕ) where
 
     pub reduced_zero : Divides M.euclidean.ring (M.element m) (M.element a) → IsZero M r
     reduced_zero d =
-        answer_element L legal (sum M a w) (both (both (and_left x z own) own_zero) (and_right x z own)) reduced_is
+        answer_element L legal (sum M a w) (and_from _ _ (and_from _ _ (and_parts x z own).0 own_zero) (and_parts x z own).1) reduced_is
         ∙ divides_zero_remainder L legal (sum M a w) (divides_eq M.euclidean.ring d (sym (ap (M.euclidean.ring.add (M.element a)) zero_element ∙ add-zero M.euclidean.ring (M.element a))))

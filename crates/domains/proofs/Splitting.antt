@@ -1,5 +1,7 @@
 -- Why a modulus splits into two halves by a proper factor. Assumes nothing.
 use Rattle.std.proofs.Common.{◌≡◌, ℕ, zero, suc, ◌≤◌, Bool, true, false, cond, ◌&&◌, ◌≢◌, ◌⊎◌, List, [], ◌∷◌, length, MatchBool, sym, refl, ap, ◌∙◌, subst, inl, inr, arith, eq-eqb}
+use Rattle.std.proofs.lemmas.Bool.Decides.{when_true, when_false}
+use Rattle.std.proofs.lemmas.Bool.{and_from, and_parts}
 use mathlib.Mathlib.Algebra.Ring.Defs.{CommRing}
 use Rattle.algebra.specs.Divisibility.{Divides, IsUnit, Irreducible, Coprime, Squarefree, product, NonUnits}
 use Rattle.algebra.specs.Euclidean.{Division}
@@ -11,7 +13,8 @@ use Rattle.domains.specs.Meaning.{Meaning, Laws, SquarefreeModulus}
 use Rattle.domains.specs.Answers.{Divided, IsZero, Zeros, zero_word}
 use Rattle.domains.specs.Split.{ProperFactor, Halved, SplitInto}
 use Rattle.domains.specs.SplitLaws.{Splitting, SplitLaws}
-use Rattle.domains.proofs.Calls.{both, and_left, and_right, when_true, when_false, legal_element}
+use Rattle.domains.specs.View.{View, Lawful, IsModulusQuotient}
+use Rattle.domains.proofs.Calls.{legal_element}
 
 module _ {M : Meaning} (L : Laws M) where
   open M.euclidean.ring use {mul as ◌*◌, zero as 𝟘, one as 𝟙}
@@ -73,7 +76,7 @@ module _ {M : Meaning} (L : Laws M) where
   -- a normal non-unit divisor of a modulus is a modulus, by its canonical word
   pub divisor_modulus : (m : M.Element) (w : ℕ) → M.legal m ≡ true → Squarefree 𝓡 m → M.word (M.element w) ≡ w → Divides 𝓡 (M.element w) m → M.euclidean.normal (M.element w) ≡ true → ¬ IsUnit 𝓡 (M.element w) → SquarefreeModulus M w
   divisor_modulus m w l s spelled d n u = record {
-    legal = both (L.legal_divisor m (M.element w) l d n u) (eq-eqb _ _ spelled);
+    legal = and_from _ _ (L.legal_divisor m (M.element w) l d n u) (eq-eqb _ _ spelled);
     squarefree = squarefree_divisor 𝓡 d s;
   }
 
@@ -121,7 +124,7 @@ module _ {M : Meaning} (L : Laws M) where
     own_both = own (z && x) refl
 
     f_is_g : f ≡ g
-    f_is_g = f_is ∙ ap (λ b. cond b g 0) (and_right z x own_both)
+    f_is_g = f_is ∙ ap (λ b. cond b g 0) (and_parts z x own_both).1
 
     divided : Division M.euclidean (M.element m) (M.element g) (M.element q) (M.element r)
     divided = let d = when_true (Divided M m g q r) (Zeros M q r) own_both parts in d.by_nonzero (λ e. quotient_nonzero (d.by_zero e).0)
@@ -132,37 +135,44 @@ module _ {M : Meaning} (L : Laws M) where
     pub split_into : SplitInto M (x && z) m g f c
     split_into = record {
       splits = record {
-        own_words = both (and_right z x own_both) (and_left z x own_both);
+        own_words = and_from _ _ (and_parts z x own_both).1 (and_parts z x own_both).0;
         proper = subst (λ w. ProperFactor M (M.element m) (M.element w)) f_is_g (product_proper (M.element m) (M.element f) (M.element c) product_is (legal_element M f factor.legal) (legal_element M c cofactor.legal));
       };
       factor = f_is_g;
-      halved = halved (M.element m) (M.element f) (M.element c) (modulus (and_left z x own_both)).squarefree product_is;
+      halved = halved (M.element m) (M.element f) (M.element c) (modulus (and_parts z x own_both).0).squarefree product_is;
     }
 
 -- The laws of a split hold.
-module _ {V : Type 0} {N : Type 0} (own : V → Bool) (word : V → ℕ) (own_modulus : N → Bool) (modulus_word : N → ℕ) {M : Meaning} (L : Laws M) (sound : (n : N) → own_modulus n ≡ true → SquarefreeModulus M (modulus_word n)) (spelled : (v : V) → own v ≡ true → M.word (M.element (word v)) ≡ word v) (m : N) (g : V) where
-  module _ (s : Splitting own word own_modulus modulus_word M m g) where
-    own_g : own g ≡ true
-    own_g = and_left (own g) (own_modulus m) s.own_words
+module _ {V : Type 0} {N : Type 0} {D : View V N} (lawful : Lawful D) (m : N) (g : V) where
+  abbrev L : Laws D.meaning
+  L = lawful.laws
 
-    own_m : own_modulus m ≡ true
-    own_m = and_right (own g) (own_modulus m) s.own_words
+  -- the element of m
+  abbrev modulus : D.meaning.Element
+  modulus = D.meaning.element (D.modulus_word m)
 
-    legal_m : M.legal (M.element (modulus_word m)) ≡ true
-    legal_m = legal_element M (modulus_word m) (sound m own_m).legal
+  module _ (s : Splitting D m g) where
+    own_g : D.own g ≡ true
+    own_g = (and_parts (D.own g) (D.own_modulus m) s.own_words).0
 
-    division : (q r : V) → MatchBool (own_modulus m && own g) (Divided M (modulus_word m) (word g) (word q) (word r)) (Zeros M (word q) (word r)) → Division M.euclidean (M.element (modulus_word m)) (M.element (word g)) (M.element (word q)) (M.element (word r))
-    division q r p = (when_true (Divided M (modulus_word m) (word g) (word q) (word r)) (Zeros M (word q) (word r)) (both own_m own_g) p).by_nonzero (factor_nonzero L (M.element (modulus_word m)) legal_m (sound m own_m).squarefree (word g) s.proper)
+    own_m : D.own_modulus m ≡ true
+    own_m = (and_parts (D.own g) (D.own_modulus m) s.own_words).1
 
-  pub split_laws : SplitLaws own word own_modulus modulus_word M m g
+    legal_m : D.meaning.legal modulus ≡ true
+    legal_m = legal_element D.meaning (D.modulus_word m) (lawful.sound m own_m).legal
+
+    division : (q r : V) → IsModulusQuotient D m g q r → Division D.meaning.euclidean modulus (D.meaning.element (D.word g)) (D.meaning.element (D.word q)) (D.meaning.element (D.word r))
+    division q r p = (when_true (Divided D.meaning (D.modulus_word m) (D.word g) (D.word q) (D.word r)) (Zeros D.meaning (D.word q) (D.word r)) (and_from _ _ own_m own_g) p).by_nonzero (factor_nonzero L modulus legal_m (lawful.sound m own_m).squarefree (D.word g) s.proper)
+
+  pub split_laws : SplitLaws D m g
   split_laws = record {
     exact = λ q r o p z. record { rest = r; own_quotient = o.0; parts = p; no_rest = z.1 };
     no_rest = λ q r o p more s. more (o.1, divisor_exact L (division s q r p) s.proper.divides);
-    no_factor = λ none s. none (subst (SquarefreeModulus M) (sym (ap (λ b. cond b (word g) 0) (own_g s))) (factor_modulus L (M.element (modulus_word m)) (legal_m s) (sound m (own_m s)).squarefree (word g) s.proper (spelled g (own_g s))));
-    no_cofactor = λ q x none s. none (subst (SquarefreeModulus M) (sym (ap (λ b. cond b (word q) 0) x.own_quotient)) (cofactor_modulus L (M.element (modulus_word m)) (legal_m s) (sound m (own_m s)).squarefree (word g) s.proper (word q) (spelled q x.own_quotient) (exact_product L (division s q x.rest x.parts) x.no_rest)));
+    no_factor = λ none s. none (subst (SquarefreeModulus D.meaning) (sym (ap (λ b. cond b (D.word g) 0) (own_g s))) (factor_modulus L modulus (legal_m s) (lawful.sound m (own_m s)).squarefree (D.word g) s.proper (lawful.spelled g (own_g s))));
+    no_cofactor = λ q x none s. none (subst (SquarefreeModulus D.meaning) (sym (ap (λ b. cond b (D.word q) 0) x.own_quotient)) (cofactor_modulus L modulus (legal_m s) (lawful.sound m (own_m s)).squarefree (D.word g) s.proper (D.word q) (lawful.spelled q x.own_quotient) (exact_product L (division s q x.rest x.parts) x.no_rest)));
     halves = λ q f c x f_is c_is. record {
       own_factor = f_is.0;
       own_cofactor = c_is.0;
-      split_into = split_into L (own g) (own_modulus m) (modulus_word m) (word g) (word q) (word x.rest) (modulus_word f) (modulus_word c) x.parts x.no_rest f_is.1 (c_is.1 ∙ ap (λ b. cond b (word q) 0) x.own_quotient) (sound f f_is.0) (sound c c_is.0) (sound m);
+      split_into = split_into L (D.own g) (D.own_modulus m) (D.modulus_word m) (D.word g) (D.word q) (D.word x.rest) (D.modulus_word f) (D.modulus_word c) x.parts x.no_rest f_is.1 (c_is.1 ∙ ap (λ b. cond b (D.word q) 0) x.own_quotient) (lawful.sound f f_is.0) (lawful.sound c c_is.0) (lawful.sound m);
     };
   }

@@ -2,8 +2,10 @@ pub mod Answers
 pub mod Chain
 pub mod Euclid
 pub mod EuclidLaws
+pub mod Lines
 pub mod Meaning
 pub mod OpeningLaws
 pub mod Refusals
 pub mod Split
 pub mod SplitLaws
+pub mod View

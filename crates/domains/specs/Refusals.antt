@@ -56,3 +56,7 @@ RefusesModulus M w RepeatedFactor = (legal_word M w ≡ true) × (¬ Squarefree 
 RefusesModulus M w ZeroLimit = ⊥
 RefusesModulus M w NoOpenRow = ⊥
 RefusesModulus M w OpenRow = ⊥
+
+-- the refusal of such a word; it speaks of no command
+abbrev pub ModulusRefusal : Meaning → ℕ → Refusal → Type 0
+ModulusRefusal M w e = RefusesModulus M w e.reason × (e.place ≡ 0)

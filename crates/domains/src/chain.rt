@@ -1,7 +1,8 @@
 // The chain of divisions of Euclid's extended algorithm.
-ghost use Rattle.std.specs.Prelude.{◌<◌, Bool};
+ghost use Rattle.std.specs.Prelude.{◌<◌};
 ghost use Rattle.algebra.specs.Weight.{weight};
-ghost use Rattle.domains.specs.Chain.{ChainLaws, Chained, Constants, Dividing, Found, Open};
+ghost use Rattle.domains.specs.Chain.{ChainLaws, Chained, Dividing, Found, Open};
+ghost use Rattle.domains.specs.View.{element_of};
 
 use super::domain::Domain;
 
@@ -16,8 +17,8 @@ pub(crate) struct Link<V> {
 
 // A greatest common divisor of a and m, and its cofactor; a is not 0.
 pub(crate) fn descend<D: Domain>(d: &D, a: D::Value, m: D::Modulus) -> (D::Value, D::Value)
-    requires { Dividing (D.Domain.own d.now) D.Domain.word (D.Domain.meaning d.now) (D.Domain.ownmod d.now m) (D.Domain.modword m) a }
-    ensures { Found (D.Domain.own d.now) D.Domain.word (D.Domain.meaning d.now) (D.Domain.ownmod d.now m) (D.Domain.modword m) a result.0 result.1 }
+    requires { Dividing (D.view d.now) m a }
+    ensures { Found (D.view d.now) m a result.0 result.1 }
 {
     chain_laws(d, a, m);
     let mut link = first_link(d, a, m);
@@ -27,13 +28,15 @@ pub(crate) fn descend<D: Domain>(d: &D, a: D::Value, m: D::Modulus) -> (D::Value
     (link.last, link.last_cofactor)
 }
 
-// The first division, of m by a.
+// The first division, of m by a. The cofactor 0 is a less itself, and 1 is the unit that comes with the normal multiple
+// of 0.
 fn first_link<D: Domain>(d: &D, a: D::Value, m: D::Modulus) -> Link<D::Value>
-    requires { Dividing (D.Domain.own d.now) D.Domain.word (D.Domain.meaning d.now) (D.Domain.ownmod d.now m) (D.Domain.modword m) a }
-    ensures { Chained (D.Domain.own d.now) D.Domain.word (D.Domain.meaning d.now) (D.Domain.ownmod d.now m) (D.Domain.modword m) a result }
+    requires { Dividing (D.view d.now) m a }
+    ensures { Chained (D.view d.now) m a result }
 {
     chain_laws(d, a, m);
-    let (zero, one) = zero_and_one(d, a, m);
+    let zero = d.subtract(a, a, m);
+    let (_, one) = d.normalize(zero);
     let (quotient, rest) = d.divide_modulus(m, a);
     Link {
         last: a,
@@ -43,22 +46,11 @@ fn first_link<D: Domain>(d: &D, a: D::Value, m: D::Modulus) -> Link<D::Value>
     }
 }
 
-// 0 and 1: a less itself, and the unit that comes with the normal multiple of 0.
-fn zero_and_one<D: Domain>(d: &D, a: D::Value, m: D::Modulus) -> (D::Value, D::Value)
-    requires { Dividing (D.Domain.own d.now) D.Domain.word (D.Domain.meaning d.now) (D.Domain.ownmod d.now m) (D.Domain.modword m) a }
-    ensures { Constants (D.Domain.own d.now) D.Domain.word (D.Domain.meaning d.now) (D.Domain.ownmod d.now m) (D.Domain.modword m) a result.0 result.1 }
-{
-    chain_laws(d, a, m);
-    let zero = d.subtract(a, a, m);
-    let (_, one) = d.normalize(zero);
-    (zero, one)
-}
-
 // A further division, of the last neighbour by the next.
 fn next_link<D: Domain>(d: &D, a: D::Value, m: D::Modulus, link: Link<D::Value>) -> Link<D::Value>
-    requires { Open (D.Domain.own d.now) D.Domain.word (D.Domain.meaning d.now) (D.Domain.ownmod d.now m) (D.Domain.modword m) a link }
-    ensures chained { Chained (D.Domain.own d.now) D.Domain.word (D.Domain.meaning d.now) (D.Domain.ownmod d.now m) (D.Domain.modword m) a result }
-    ensures falls { weight (D.Domain.meaning d.now).euclidean ((D.Domain.meaning d.now).element (D.Domain.word result.next)) < weight (D.Domain.meaning d.now).euclidean ((D.Domain.meaning d.now).element (D.Domain.word link.next)) }
+    requires { Open (D.view d.now) m a link }
+    ensures chained { Chained (D.view d.now) m a result }
+    ensures falls { weight (D.view d.now).meaning.euclidean (element_of (D.view d.now) result.next) < weight (D.view d.now).meaning.euclidean (element_of (D.view d.now) link.next) }
 {
     chain_laws(d, a, m);
     let (quotient, rest) = d.divide(link.last, link.next);
@@ -73,5 +65,5 @@ fn next_link<D: Domain>(d: &D, a: D::Value, m: D::Modulus, link: Link<D::Value>)
 
 // What the laws of a domain say of the chain for a modulo m. It does nothing: it is called for what it ensures.
 fn chain_laws<D: Domain>(d: &D, a: D::Value, m: D::Modulus)
-    ensures { ChainLaws (D.Domain.own d.now) D.Domain.word (D.Domain.meaning d.now) (D.Domain.ownmod d.now m) (D.Domain.modword m) a }
+    ensures { ChainLaws (D.view d.now) m a }
 {}

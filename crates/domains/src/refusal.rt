@@ -25,18 +25,21 @@ pub enum Reason {
     OpenRow = 13,
 }
 
-impl Reason {
-    pub fn number(self) -> u8
-        ensures { result ≡ number_of self }
-    {
-        self as u8
-    }
+// The number of a reason.
+impl From<Reason> for u8 {
+    ghost from_gives = { λ reason n. n ≡ number_of reason };
 
-    // The reason in words.
-    pub fn text(self) -> &'static str
-        ensures { result.now ≡ text_of self }
-    {
-        match self {
+    fn from(reason: Reason) -> u8 {
+        reason as u8
+    }
+}
+
+// The reason in words.
+impl fmt::Display for Reason {
+    ghost output = { λ reason. Some (text_of reason) };
+
+    fn fmt<W: fmt::Write>(&self, f: &mut fmt::Formatter<W>) -> fmt::Result {
+        f.write_str(match self {
             Reason::ProgramLength => "the program has no bytes or more than 1,024",
             Reason::UnknownCommand => "an unknown command byte",
             Reason::MissingOperands => "a command's operands run past the end",
@@ -51,7 +54,7 @@ impl Reason {
             Reason::ZeroLimit => "the limit is 0",
             Reason::NoOpenRow => "there is no open row to work on",
             Reason::OpenRow => "the table has an open row",
-        }
+        })
     }
 }
 
@@ -62,13 +65,21 @@ pub struct Refusal {
     pub place: u32,
 }
 
+// A refusal that speaks of no command.
+impl From<Reason> for Refusal {
+    ghost from_gives = { λ reason e. (e.reason ≡ reason) × (e.place ≡ 0) };
+
+    fn from(reason: Reason) -> Refusal {
+        Refusal { reason, place: 0 }
+    }
+}
+
 impl fmt::Display for Refusal {
     ghost output = { λ x. Some (line x) };
 
     fn fmt<W: fmt::Write>(&self, f: &mut fmt::Formatter<W>) -> fmt::Result {
-        let number = self.reason.number();
-        let place = self.place;
-        let text = self.reason.text();
-        write!(f, "refused {number} place {place}: {text}")
+        let Refusal { reason, place } = *self;
+        let number = u8::from(reason);
+        write!(f, "refused {number} place {place}: {reason}")
     }
 }

@@ -1,7 +1,8 @@
 // Splitting a modulus by a proper factor, as Euclid finds one.
-ghost use Rattle.std.specs.Prelude.{◌≡◌, true, if◌then◌else◌, MatchOption};
+ghost use Rattle.std.specs.Prelude.{MatchOption};
 ghost use Rattle.domains.specs.Meaning.{SquarefreeModulus};
 ghost use Rattle.domains.specs.SplitLaws.{Exact, Halved, SplitLaws, Splitting};
+ghost use Rattle.domains.specs.View.{IsModulus, shown_word};
 
 use super::domain::Domain;
 
@@ -14,7 +15,7 @@ pub struct Halves<M> {
 
 // The halves of m by its proper factor g; none where g is no proper factor of m, or one of them is not the domain's own.
 pub fn halve<D: Domain>(d: &D, m: D::Modulus, g: D::Value) -> Option<Halves<D::Modulus>>
-    ensures { MatchOption result (¬ Splitting (D.Domain.own d.now) D.Domain.word (D.Domain.ownmod d.now) D.Domain.modword (D.Domain.meaning d.now) m g) (Halved (D.Domain.own d.now) D.Domain.word (D.Domain.ownmod d.now) D.Domain.modword (D.Domain.meaning d.now) m g) }
+    ensures { MatchOption result (¬ Splitting (D.view d.now) m g) (Halved (D.view d.now) m g) }
 {
     split_laws(d, m, g);
     let quotient = exact_quotient(d, m, g)?;
@@ -25,14 +26,14 @@ pub fn halve<D: Domain>(d: &D, m: D::Modulus, g: D::Value) -> Option<Halves<D::M
 
 // The modulus with the word of a value, if that is one.
 fn modulus_of<D: Domain>(d: &D, a: D::Value) -> Option<D::Modulus>
-    ensures { MatchOption result (¬ SquarefreeModulus (D.Domain.meaning d.now) (if D.Domain.own d.now a then D.Domain.word a else 0)) (λ m. (D.Domain.ownmod d.now m ≡ true) × (D.Domain.modword m ≡ (if D.Domain.own d.now a then D.Domain.word a else 0))) }
+    ensures { MatchOption result (¬ SquarefreeModulus (D.view d.now).meaning (shown_word (D.view d.now) a)) (IsModulus (D.view d.now) (shown_word (D.view d.now) a)) }
 {
     d.modulus(d.word_of(a))
 }
 
 // The quotient of m by g, where g divides m.
 fn exact_quotient<D: Domain>(d: &D, m: D::Modulus, g: D::Value) -> Option<D::Value>
-    ensures { MatchOption result (¬ Splitting (D.Domain.own d.now) D.Domain.word (D.Domain.ownmod d.now) D.Domain.modword (D.Domain.meaning d.now) m g) (Exact (D.Domain.own d.now) D.Domain.word (D.Domain.ownmod d.now) D.Domain.modword (D.Domain.meaning d.now) m g) }
+    ensures { MatchOption result (¬ Splitting (D.view d.now) m g) (Exact (D.view d.now) m g) }
 {
     split_laws(d, m, g);
     let (quotient, rest) = d.divide_modulus(m, g);
@@ -45,5 +46,5 @@ fn exact_quotient<D: Domain>(d: &D, m: D::Modulus, g: D::Value) -> Option<D::Val
 
 // What the laws of a domain say of a split of m by g. It does nothing: it is called for what it ensures.
 fn split_laws<D: Domain>(d: &D, m: D::Modulus, g: D::Value)
-    ensures { SplitLaws (D.Domain.own d.now) D.Domain.word (D.Domain.ownmod d.now) D.Domain.modword (D.Domain.meaning d.now) m g }
+    ensures { SplitLaws (D.view d.now) m g }
 {}

@@ -3,9 +3,7 @@ use Rattle.domains.specs.Chain.{Chained}
 use Rattle.domains.proofs.chain.descend.Given as goal
 
 abbrev pub invariant-loop-a : goal.invariant-loop-a
-invariant-loop-a g l =
-    let D = g.D.Domain in
-    Chained (D.own l.d) D.word (D.meaning l.d) (D.ownmod l.d l.m) (D.modword l.m) l.a l.link
+invariant-loop-a g l = Chained (g.D.Domain.view l.d) l.m l.a l.link
 
 abbrev pub decreases-loop-a : goal.decreases-loop-a
-decreases-loop-a g l = weight (g.D.Domain.meaning l.d).euclidean ((g.D.Domain.meaning l.d).element (g.D.Domain.word l.link.next))
+decreases-loop-a g l = let D = g.D.Domain.view l.d in weight D.meaning.euclidean (D.meaning.element (D.word l.link.next))

@@ -1,4 +1,7 @@
 use Rattle.domains.proofs.chain.first_link.Goals as goal
 
 pub returns : goal.returns
-returns g c = c.chain_laws.ensures.start _ _ _ _ _ c.requires c.zero_and_one-zero.ensures c.divide_modulus-quotient.ensures.parts c.divide_modulus-quotient.ensures.own c.subtract.ensures.value c.subtract.ensures.own
+returns g c =
+    let laws = c.chain_laws.ensures in
+    let constants = laws.constants _ _ _ c.requires c.subtract-zero.ensures.value c.subtract-zero.ensures.own c.normalize-one.ensures.parts c.normalize-one.ensures.own in
+    laws.start _ _ _ _ _ c.requires constants c.divide_modulus-quotient.ensures.parts c.divide_modulus-quotient.ensures.own c.subtract.ensures.value c.subtract.ensures.own

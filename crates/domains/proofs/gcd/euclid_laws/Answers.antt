@@ -1,9 +1,5 @@
-use Rattle.domains.proofs.Calls.{legal_element}
 use Rattle.domains.proofs.Inversion.{euclid_laws}
 use Rattle.domains.proofs.gcd.euclid_laws.Goals as goal
 
 pub returns : goal.returns
-returns g c =
-    let D = g.D.Domain in
-    let d = c.args.d.now in
-    euclid_laws (D.own d) D.word (g.met.D.Domain.lawful d) (D.ownmod d c.args.m) (D.modword c.args.m) (λ o. legal_element (D.meaning d) (D.modword c.args.m) (g.met.D.Domain.sound d c.args.m o).legal) (g.met.D.Domain.spelled d) c.args.a
+returns g c = euclid_laws (g.met.D.Domain.lawful c.args.d.now) c.args.m c.args.a
