@@ -10,16 +10,17 @@ pub(crate) fn reduce(n: u64, m: IntegerModulus) -> Integer
     ensures { result.word ≡ n % m.word }
 {
     Integer {
-        word: (n % m.word as u64) as u32,
+        word: (n % u64::from(m.word)) as u32,
     }
 }
 
 // The remainder of a − b modulo m. In place of taking b away, what b lacks to a multiple of m is added, so that nothing
 // is negative.
+#[tactic(auto, using(crate::specs::Remainders::wrapped_difference))]
 pub(crate) fn reduce_difference(a: Integer, b: Integer, m: IntegerModulus) -> Integer
     ensures { result.word ≡ wrapped m.word (pos a.word -ℤ pos b.word) }
 {
-    reduce(a.word as u64 + (m.word - b.word % m.word) as u64, m)
+    reduce(u64::from(a.word) + u64::from(m.word - b.word % m.word), m)
 }
 
 // Quotient and remainder; by 0 they are 0 and the dividend.

@@ -33,28 +33,24 @@ impl Domain for Integers {
 
     type Modulus = IntegerModulus;
 
-    ghost meaning = { λ _. integers };
+    ghost view = { λ _. record { meaning = integers; word = λ a. a.word; modulus_word = λ m. m.word; own = λ _. true; own_modulus = λ _. true } };
 
-    ghost word = { λ a. a.word };
+    ghost lawful = { λ d. record {
+      laws = Laws.lawful;
+      spelled = λ a e. refl;
+      sound = λ m e. squarefree_modulus m.word (record { large = m.large; small = m.small; free = m.free });
+    } };
 
-    ghost modword = { λ m. m.word };
+    ghost one_word = { λ d e a. refl };
 
-    ghost own = { λ _ _. true };
-
-    ghost ownmod = { λ _ _. true };
-
-    ghost lawful = { λ d. Laws.lawful };
-
-    ghost spelled = { λ d a e. refl };
-
-    ghost sound = { λ d m e. squarefree_modulus m.word (record { large = m.large; small = m.small; free = m.free }) };
+    ghost one_modulus_word = { λ d e m. refl };
 
     fn residue(&self, w: u64, m: IntegerModulus) -> Integer {
         reduce(w, m)
     }
 
     fn add(&self, a: Integer, b: Integer, m: IntegerModulus) -> Integer {
-        reduce(a.word as u64 + b.word as u64, m)
+        reduce(u64::from(a.word) + u64::from(b.word), m)
     }
 
     fn subtract(&self, a: Integer, b: Integer, m: IntegerModulus) -> Integer {
@@ -62,15 +58,15 @@ impl Domain for Integers {
     }
 
     fn multiply(&self, a: Integer, b: Integer, m: IntegerModulus) -> Integer {
-        reduce(a.word as u64 * b.word as u64, m)
+        reduce(u64::from(a.word) * u64::from(b.word), m)
     }
 
     fn word_of(&self, a: Integer) -> u64 {
-        a.word as u64
+        u64::from(a.word)
     }
 
     fn word_of_modulus(&self, m: IntegerModulus) -> u64 {
-        m.word as u64
+        u64::from(m.word)
     }
 
     fn is_zero(&self, a: Integer) -> bool {
@@ -78,11 +74,7 @@ impl Domain for Integers {
     }
 
     fn is_legal(&self, w: u64) -> bool {
-        2 <= w && w <= LARGEST_MODULUS
-    }
-
-    fn is_squarefree(&self, w: u64) -> bool {
-        self.is_modulus(w)
+        (2..=LARGEST_MODULUS).contains(&w)
     }
 
     fn modulus(&self, w: u64) -> Option<IntegerModulus> {

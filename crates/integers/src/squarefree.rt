@@ -3,6 +3,9 @@ ghost use Rattle.std.specs.Prelude.{◌^◌, ◌<◌, MatchOption};
 ghost use Rattle.domains.specs.Answers.{Decides};
 ghost use Rattle.integers.specs.Squarefree.{DividesTwice, IsSquare, Left, NoSquareDivides};
 
+// The first number whose cube is not below 2^31.
+const CUBE_ROOT_LIMIT: u32 = 1291;
+
 // Divides out the factors up to the cube root. What is left is then 1, a prime, a product of two different primes or the
 // square of a prime, so it only remains to see whether it is a square.
 pub(crate) fn no_square_divides(n: u32) -> bool
@@ -10,13 +13,14 @@ pub(crate) fn no_square_divides(n: u32) -> bool
     ensures { Decides result (NoSquareDivides n) }
 {
     let mut rest = n;
-    let mut d = 2;
-    while d * d * d <= rest {
+    for d in 2..CUBE_ROOT_LIMIT {
+        if d * d * d > rest {
+            break;
+        }
         match divide_out(rest, d) {
             Some(left) => rest = left,
             None => return false,
         }
-        d += 1;
     }
     !is_square(rest)
 }
@@ -30,7 +34,7 @@ fn divide_out(n: u32, d: u32) -> Option<u32>
         return Some(n);
     }
     let left = n / d;
-    if left % d == 0 { None } else { Some(left) }
+    (left % d != 0).then_some(left)
 }
 
 // Whether n is the square of a number from 2 on.

@@ -26,18 +26,14 @@ fn squarefree_words(rt: HostRuntime) {
 #[test]
 fn moduli(rt: HostRuntime) -> Result<(), Fail> {
     assert!(rt; Integers.modulus(12).is_none());
-    let Some(m) = Integers.modulus(30) else {
-        return Err(Fail::new("30 is squarefree"));
-    };
+    let m = Integers.modulus(30).ok_or("30 is squarefree")?;
     assert_eq!(rt; Integers.word_of_modulus(m), 30);
     Ok(())
 }
 
 #[test]
 fn residues(rt: HostRuntime) -> Result<(), Fail> {
-    let Some(m) = Integers.modulus(7) else {
-        return Err(Fail::new("7 is squarefree"));
-    };
+    let m = Integers.modulus(7).ok_or("7 is squarefree")?;
     let two = Integers.residue(16, m);
     let five = Integers.residue(5, m);
     assert_eq!(rt; Integers.word_of(two), 2);
@@ -50,9 +46,7 @@ fn residues(rt: HostRuntime) -> Result<(), Fail> {
 
 #[test]
 fn quotients(rt: HostRuntime) -> Result<(), Fail> {
-    let Some(m) = Integers.modulus(7) else {
-        return Err(Fail::new("7 is squarefree"));
-    };
+    let m = Integers.modulus(7).ok_or("7 is squarefree")?;
     let zero = Integers.residue(0, m);
     let two = Integers.residue(2, m);
     let (quotient, remainder) = Integers.divide_modulus(m, two);
@@ -69,9 +63,7 @@ fn quotients(rt: HostRuntime) -> Result<(), Fail> {
 
 #[test]
 fn quotients_of_a_modulus_by_zero(rt: HostRuntime) -> Result<(), Fail> {
-    let Some(m) = Integers.modulus(7) else {
-        return Err(Fail::new("7 is squarefree"));
-    };
+    let m = Integers.modulus(7).ok_or("7 is squarefree")?;
     let (quotient, remainder) = Integers.divide_modulus(m, Integers.residue(0, m));
     assert_eq!(rt; Integers.word_of(quotient), 0);
     assert_eq!(rt; Integers.word_of(remainder), 7);

@@ -1,24 +1,27 @@
-use Rattle.std.proofs.Common.{◌+◌, ◌≤◌, mul-le-mul, arith, lit≤}
-use Rattle.integers.proofs.DividingOut.{start, next, left_below, told, cube_root}
+use Rattle.std.proofs.Common.{◌*◌, ◌<◌, ◌≤◌, mul-le-mul, arith, rules}
+use Rattle.integers.proofs.DividingOut.{next, left_below, found_twice, decided}
 use Rattle.integers.proofs.squarefree.no_square_divides.Goals as goal
+use Rattle.integers.proofs.squarefree.no_square_divides.Goals.{else-loop-d-test, then-loop-d-test+then-d-rest}
 
-pub loop-d-init : goal.loop-d-init
-loop-d-init c =
-    let s = start c.args.n c.requires.0 in
-    (lit≤ tt, lit≤ tt, omega arith, s, told s (lit≤ tt))
-
--- the cube of a number up to 1291 fits 32 bits
-pub overflow_mul-d-in-loop-d : goal.overflow_mul-d-in-loop-d
-overflow_mul-d-in-loop-d c =
-    let h = c.loop-d.invariant.1 in
-    omega (arith, mul-le-mul (mul-le-mul h h) h)
-
--- a turn divides d out, and d is at most 1290 before it
+-- a turn divides d out
 pub loop-d-preserved : goal.loop-d-preserved
 loop-d-preserved c =
-    let d = c.loop-d.d in
     let left = c.in-Some.ensures in
-    let top : d ≤ 1290 = cube_root d (omega arith) in
-    let low : 2 ≤ d + 1 = omega arith in
-    let s = next c.loop-d.invariant.3 c.loop-d.invariant.0 left in
-    (low, omega arith, omega (arith, left_below left), s, told s low)
+    (omega (arith, left_below left, c.loop-d.invariant.0), next c.loop-d.invariant.1 c.loop-d.auto.d left)
+
+-- d divides the rest twice
+pub returns-in-None : goal.returns-in-None
+returns-in-None c = let found = found_twice c.loop-d.invariant.1 c.loop-d.auto.d in search (rules, found)
+
+-- the cube of d has passed the rest: at the end of the range it has passed 2^31
+pub returns : goal.returns
+returns c =
+    let cube : c.loop-d.rest < c.loop-d.d * c.loop-d.d * c.loop-d.d =
+    elim c.loop-d-test.branch [
+      | else-loop-d-test w ↦
+          let h : 1291 ≤ c.loop-d.d = omega arith in
+          omega (arith, c.loop-d.invariant.0, mul-le-mul (mul-le-mul h h) h)
+      | then-loop-d-test+then-d-rest w ↦ omega arith
+    ] in
+    let last = decided c.loop-d.invariant.1 cube in
+    search (rules, last)
