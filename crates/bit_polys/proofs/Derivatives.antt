@@ -1,26 +1,18 @@
--- The derivative of the polynomial of a word, and the test for squares that it gives. Assumes nothing.
-use Rattle.std.proofs.Common.{◌≡◌, ℕ, zero, suc, ◌+◌, ◌*◌, ◌/◌, ◌%◌, ◌^◌, ◌<◌, Bool, ◌⊎◌, sym, refl, ap, ◌∙◌, subst, inl, inr, arith, lit≤}
+-- The derivative of the polynomial of a word. Assumes nothing.
+use Rattle.std.proofs.Common.{◌≡◌, ℕ, zero, suc, ◌+◌, ◌*◌, ◌/◌, ◌%◌, ◌^◌, ◌<◌, ◌⊎◌, sym, refl, ap, ◌∙◌, inl, inr, arith, lit≤}
 use native.Mathlib.Nat as Nat
 use lib.Bits.{bit_and, and_shr, and_mod, and_mask, and_comm}
 use Rattle.std.proofs.lemmas.Bool.{cases_lt}
-use Rattle.algebra.specs.Divisibility.{Coprime}
-use Rattle.domains.specs.Answers.{Decides}
-use Rattle.domains.proofs.Decisions.{decides_like}
 use Rattle.polynomials.specs.Sequence.{multiple}
 use Rattle.polynomials.specs.Polynomial.{derivative}
-use Rattle.polynomials.specs.Perfect.{Perfect}
 use Rattle.polynomials.specs.Words.{digit}
-use Rattle.polynomials.proofs.Ring.{polynomial_ring}
 use Rattle.polynomials.proofs.Equality.{extensional}
 use Rattle.polynomials.proofs.Coefficients.{coefficient_derivative}
-use Rattle.polynomials.proofs.Squarefree.{squarefree_iff_coprime_derivative}
 use Rattle.polynomials.proofs.Words.{digit_power, digit_above}
 use Rattle.polynomial_domains.specs.PrimeField.{modular}
-use Rattle.polynomial_domains.proofs.PrimeField.{equal_modular, prime_perfect}
+use Rattle.polynomial_domains.proofs.PrimeField.{equal_modular}
 use Rattle.bit_polys.specs.BitPolys.{bit_field, polynomial_of}
-use Rattle.bit_polys.specs.Moduli.{NoSquareDivides}
 use Rattle.bit_polys.specs.Words.{coefficient_word, bits_add}
-use Rattle.bit_polys.specs.ModuliLemmas.{squarefree, no_square}
 
 -- the number whose first 2 k bits are 1, 0, 1, 0 and so on, from the last one
 abbrev even_places : ℕ → ℕ
@@ -75,16 +67,3 @@ word_derivative w h =
     (λ i. coefficient_word (bit_and (w / 2) 0x5555_5555) i
     ∙ equal_modular 2 refl _ _ (ap (λ x. x % 2) (masked_bit w i h) ∙ Nat.mod-mod _ 2)
     ∙ sym (coefficient_derivative bit_field (polynomial_of w) i ∙ ap (multiple bit_field.ring (suc i)) (coefficient_word w (suc i)) ∙ multiple_bit (suc i) (w / 2 ^ suc i % 2)))
-
--- every element of GF(2) is a square
-perfect : Perfect bit_field
-unfolding bit_field
-perfect = prime_perfect 2 refl
-
--- so a word is squarefree exactly when it is coprime to its derivative
-pub decides_squarefree : (r : Bool) (w v : ℕ) → polynomial_of v ≡ derivative bit_field (polynomial_of w) → Decides r (Coprime (polynomial_ring bit_field) (polynomial_of w) (polynomial_of v)) → Decides r (NoSquareDivides w)
-decides_squarefree r w v e =
-    let test = squarefree_iff_coprime_derivative bit_field perfect (polynomial_of w) in
-    decides_like r (Coprime (polynomial_ring bit_field) (polynomial_of w) (polynomial_of v)) (NoSquareDivides w)
-    (λ c. no_square w (test.1 (subst (Coprime (polynomial_ring bit_field) (polynomial_of w)) e c)))
-    (λ f. subst (Coprime (polynomial_ring bit_field) (polynomial_of w)) (sym e) (test.0 (squarefree w f)))

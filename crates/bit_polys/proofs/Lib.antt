@@ -2,4 +2,4 @@ pub mod Steps
 pub mod LongDivision
 pub mod Products
 pub mod Derivatives
-pub mod Coprimality
+pub mod Decisions

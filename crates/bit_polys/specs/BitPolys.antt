@@ -5,8 +5,11 @@ use Rattle.algebra.specs.Field.{Field}
 use Rattle.domains.specs.Meaning.{Meaning}
 use Rattle.polynomials.specs.Polynomial.{Polynomial}
 use Rattle.polynomials.specs.Words.{Digits, from_word}
+use Rattle.polynomials.specs.Perfect.{Perfect}
+use Rattle.polynomial_domains.specs.PerfectField.{PerfectField}
 use Rattle.polynomial_domains.specs.PolynomialDomain.{polynomial_domain}
 use Rattle.polynomial_domains.specs.PrimeField.{Modular, prime_field, prime_digits}
+use Rattle.polynomial_domains.proofs.PrimeField.{prime_perfect}
 
 -- the elements of GF(2): the residues of whole numbers modulo 2
 abbrev pub Bit : Type 0
@@ -15,6 +18,15 @@ Bit = Modular 2 refl
 -- the field GF(2)
 unfoldable pub bit_field : Field Bit
 bit_field = prime_field 2 refl
+
+-- every element is a square
+pub bit_perfect : Perfect bit_field
+unfolding bit_field
+bit_perfect = prime_perfect 2 refl
+
+-- so GF(2) is perfect
+abbrev pub bit_scalars : PerfectField
+bit_scalars = record { Scalar = Bit; field = bit_field; perfect = bit_perfect }
 
 -- its elements as binary digits: the digit 0 stands for 0, the digit 1 for 1
 unfoldable pub bit_digits : Digits bit_field

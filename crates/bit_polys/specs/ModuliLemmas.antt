@@ -5,7 +5,7 @@ use Rattle.std.proofs.Common.{sym, ap, ◌∙◌, arith, pow_mono}
 use Rattle.std.proofs.Math.Nat as Nat
 use Rattle.std.proofs.lemmas.Bool.{and_parts, and_from, leb-true, le-leb, eq-eqb, false≢true}
 use Rattle.algebra.specs.Divisibility.{Squarefree}
-use Rattle.algebra.proofs.Bezout.{unit_decided}
+use Rattle.algebra.proofs.Bezout.{squarefree_iff_no_square}
 use Rattle.domains.specs.Meaning.{SquarefreeModulus, legal_word}
 use Rattle.domains.specs.Answers.{Decides}
 use Rattle.domains.proofs.Calls.{legal_element}
@@ -81,11 +81,11 @@ legal_range w = same_truth (legal_word bit_polys w) (in_range w) (λ e. range_te
 
 -- whether a polynomial is a unit is decided, so it is enough that no square of a non-unit divides
 pub squarefree : (w : ℕ) → NoSquareDivides w → Squarefree (polynomial_ring bit_field) (polynomial_of w)
-squarefree w free d p = elim (unit_decided (polynomial_laws bit_field) d) [ yes u ↦ u | no n ↦ absurd (free d p n) ]
+squarefree w = (squarefree_iff_no_square (polynomial_laws bit_field) (polynomial_of w)).1
 
 -- and no square of a non-unit divides a squarefree polynomial
 pub no_square : (w : ℕ) → Squarefree (polynomial_ring bit_field) (polynomial_of w) → NoSquareDivides w
-no_square w s d p n = n (s d p)
+no_square w = (squarefree_iff_no_square (polynomial_laws bit_field) (polynomial_of w)).0
 
 -- a word in range that is squarefree is a squarefree modulus
 pub squarefree_modulus : (w : ℕ) → ModulusWord w → SquarefreeModulus bit_polys w

@@ -16,13 +16,15 @@ pub(crate) fn reduce(w: u64, m: BitPolyModulus) -> BitPoly
 }
 
 // The sum of two values.
+#[tactic(auto, using(crate::specs::Words::xor_adds))]
 pub(crate) fn sum(a: BitPoly, b: BitPoly) -> u64
     ensures { polynomial_of result ≡ sum_of bit_polys a.word b.word }
 {
-    a.word as u64 ^ b.word as u64
+    u64::from(a.word ^ b.word)
 }
 
 // The difference of two values: their sum, since 2 is 0.
+#[tactic(auto, using(crate::specs::Words::own_negative))]
 pub(crate) fn difference(a: BitPoly, b: BitPoly) -> u64
     ensures { polynomial_of result ≡ difference-of bit_polys a.word b.word }
 {
@@ -30,13 +32,14 @@ pub(crate) fn difference(a: BitPoly, b: BitPoly) -> u64
 }
 
 // Quotient and remainder; by 0 they are 0 and the dividend.
+#[tactic(auto, using(crate::specs::Words::zero_stands, crate::specs::Words::zero_word))]
 pub(crate) fn quotient_and_remainder(a: u32, b: u32) -> (BitPoly, BitPoly)
     ensures { Divided bit_polys a b result.0.word result.1.word }
 {
     if b == 0 {
         return (BitPoly { word: 0 }, BitPoly { word: a });
     }
-    let (quotient, remainder) = long_division(a as u64, b);
+    let (quotient, remainder) = long_division(u64::from(a), b);
     let quotient = BitPoly {
         word: quotient as u32,
     };

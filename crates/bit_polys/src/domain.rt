@@ -1,5 +1,5 @@
 // The domain. Every value and every modulus of its types is its own.
-ghost use Rattle.std.specs.Prelude.{◌≡◌, true};
+ghost use Rattle.std.specs.Prelude.{◌≡◌, true, refl};
 ghost use Rattle.domains.specs.Answers.{Decides};
 ghost use Rattle.domains.specs.Meaning.{SquarefreeModulus};
 ghost use Rattle.bit_polys.specs.BitPolys.{bit_polys, bit_field, bit_digits};
@@ -11,9 +11,9 @@ ghost use Rattle.bit_polys.specs.ModuliLemmas.{squarefree_modulus};
 
 use crate::arithmetic::{difference, normal_multiple, quotient_and_remainder, reduce, sum};
 use crate::product::product;
-use crate::squarefree::no_square_divides;
 use crate::value::{BitPoly, BitPolyModulus};
 use domains::Domain;
+use polynomial_domains::is_squarefree;
 
 // The words of the polynomials of degree 1 to 31.
 const SMALLEST_MODULUS: u64 = 2;
@@ -29,7 +29,7 @@ impl BitPolys {
         ensures meant { Decides result (SquarefreeModulus bit_polys w) }
         ensures plain { Decides result (ModulusWord w) }
     {
-        is_in_range(w) && no_square_divides(w as u32)
+        is_in_range(w) && is_squarefree(self, BitPoly { word: w as u32 })
     }
 }
 
@@ -37,7 +37,7 @@ impl BitPolys {
 fn is_in_range(w: u64) -> bool
     ensures { result ≡ in_range w }
 {
-    SMALLEST_MODULUS <= w && w <= LARGEST_MODULUS
+    (SMALLEST_MODULUS..=LARGEST_MODULUS).contains(&w)
 }
 
 impl Domain for BitPolys {
@@ -45,21 +45,17 @@ impl Domain for BitPolys {
 
     type Modulus = BitPolyModulus;
 
-    ghost meaning = { λ _. bit_polys };
+    ghost view = { λ _. record { meaning = bit_polys; word = λ a. a.word; modulus_word = λ m. m.word; own = λ _. true; own_modulus = λ _. true } };
 
-    ghost word = { λ a. a.word };
+    ghost lawful = { λ d. record {
+      laws = polynomial_domain_laws bit_field bit_digits 31 (lit≤ tt);
+      spelled = λ a e. word_of_polynomial a.word;
+      sound = λ m e. squarefree_modulus m.word (record { large = m.large; small = m.small; free = m.free });
+    } };
 
-    ghost modword = { λ m. m.word };
+    ghost one_word = { λ d e a. refl };
 
-    ghost own = { λ _ _. true };
-
-    ghost ownmod = { λ _ _. true };
-
-    ghost lawful = { λ d. polynomial_domain_laws bit_field bit_digits 31 (lit≤ tt) };
-
-    ghost spelled = { λ d a e. word_of_polynomial a.word };
-
-    ghost sound = { λ d m e. squarefree_modulus m.word (record { large = m.large; small = m.small; free = m.free }) };
+    ghost one_modulus_word = { λ d e m. refl };
 
     fn residue(&self, w: u64, m: BitPolyModulus) -> BitPoly {
         reduce(w, m)
@@ -78,23 +74,21 @@ impl Domain for BitPolys {
     }
 
     fn word_of(&self, a: BitPoly) -> u64 {
-        a.word as u64
+        u64::from(a.word)
     }
 
     fn word_of_modulus(&self, m: BitPolyModulus) -> u64 {
-        m.word as u64
+        u64::from(m.word)
     }
 
+    #[tactic(auto, using(crate::specs::Words::zero_stands, crate::specs::Words::zero_only))]
     fn is_zero(&self, a: BitPoly) -> bool {
         a.word == 0
     }
 
+    #[tactic(auto, using(crate::specs::ModuliLemmas::legal_range))]
     fn is_legal(&self, w: u64) -> bool {
         is_in_range(w)
-    }
-
-    fn is_squarefree(&self, w: u64) -> bool {
-        self.is_modulus(w)
     }
 
     fn modulus(&self, w: u64) -> Option<BitPolyModulus> {

@@ -31,18 +31,14 @@ fn squarefree_words(rt: HostRuntime) {
 fn moduli(rt: HostRuntime) -> Result<(), Fail> {
     assert!(rt; BitPolys.modulus(5).is_none());
     assert!(rt; BitPolys.modulus(1).is_none());
-    let Some(m) = BitPolys.modulus(7) else {
-        return Err(Fail::new("x² + x + 1 is squarefree"));
-    };
+    let m = BitPolys.modulus(7).ok_or("x² + x + 1 is squarefree")?;
     assert_eq!(rt; BitPolys.word_of_modulus(m), 7);
     Ok(())
 }
 
 #[test]
 fn residues(rt: HostRuntime) -> Result<(), Fail> {
-    let Some(m) = BitPolys.modulus(0b1011) else {
-        return Err(Fail::new("x³ + x + 1 is squarefree"));
-    };
+    let m = BitPolys.modulus(0b1011).ok_or("x³ + x + 1 is squarefree")?;
     let a = BitPolys.residue(0b10000, m);
     let b = BitPolys.residue(0b111, m);
     assert_eq!(rt; BitPolys.word_of(a), 0b110);
@@ -54,9 +50,9 @@ fn residues(rt: HostRuntime) -> Result<(), Fail> {
 
 #[test]
 fn long_residues(rt: HostRuntime) -> Result<(), Fail> {
-    let Some(m) = BitPolys.modulus(0x8000_0009) else {
-        return Err(Fail::new("x^31 + x^3 + 1 is squarefree"));
-    };
+    let m = BitPolys
+        .modulus(0x8000_0009)
+        .ok_or("x^31 + x^3 + 1 is squarefree")?;
     let a = BitPolys.residue(0xffff_ffff_ffff_ffff, m);
     let b = BitPolys.residue(0xffff_ffff, m);
     assert_eq!(rt; BitPolys.word_of(a), 0x7fff_ff04);
@@ -67,9 +63,7 @@ fn long_residues(rt: HostRuntime) -> Result<(), Fail> {
 
 #[test]
 fn quotients(rt: HostRuntime) -> Result<(), Fail> {
-    let Some(m) = BitPolys.modulus(0b1011) else {
-        return Err(Fail::new("x³ + x + 1 is squarefree"));
-    };
+    let m = BitPolys.modulus(0b1011).ok_or("x³ + x + 1 is squarefree")?;
     let zero = BitPolys.residue(0, m);
     let b = BitPolys.residue(0b110, m);
     let (quotient, remainder) = BitPolys.divide_modulus(m, b);
