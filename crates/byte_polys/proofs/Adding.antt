@@ -1,5 +1,5 @@
 -- Adding c·x^k·b, coefficient by coefficient, adds that polynomial. Assumes nothing.
-use Rattle.std.proofs.Common.{◌≡◌, ℕ, ◌+◌, ◌-◌, ◌*◌, ◌<◌, ◌≤◌, List, get_or, sym, ap, ◌∙◌, subst, ap₂, arith}
+use Rattle.std.proofs.Common.{◌≡◌, ℕ, ◌+◌, ◌-◌, ◌*◌, ◌%◌, ◌<◌, ◌≤◌, List, get_or, sym, ap, ◌∙◌, subst, ap₂, arith}
 use native.Mathlib.Nat as Nat
 use native.Mathlib.Decide.{dec_le, dec_lt}
 use Rattle.algebra.specs.Field.{Field}
@@ -9,7 +9,7 @@ use Rattle.polynomials.specs.Words.{Digits, element_zero, from_word}
 use Rattle.polynomials.proofs.Coefficients.{coefficient_plus, coefficient_shift, coefficient_shift_below}
 use Rattle.byte_polys.specs.ByteField.{number}
 use Rattle.byte_polys.specs.Steps.{Below, ZeroFrom, Added}
-use Rattle.byte_polys.specs.Bytes.{Modulo, coefficient_byte, coefficient_below, element_mod, poly_is}
+use Rattle.byte_polys.specs.Bytes.{Modulo, coefficient_byte, element_mod, poly_is}
 
 -- what holds below k and from k on holds everywhere
 pub from_split : (P : ℕ → Type 0) (k : ℕ) → ((j : ℕ) → j < k → P j) → ((j : ℕ) → P (k + j)) → (i : ℕ) → P i
@@ -27,17 +27,33 @@ added_below {p} {c} {k} {n} {xs} {b} {ys} some a h = from_split (λ i. get_or ys
     go j (yes l) = subst (λ x. x < p) (sym (a.within j l)) (Nat.mod-lt _ some)
     go j (no l) = subst (λ x. x < p) (sym (a.above (k + j) (omega arith))) (h (k + j))
 
+-- eight sums, one for each place
+pub added_each : {p c : ℕ} (xs b ys : List ℕ) → ((j : ℕ) → j < 8 → get_or ys j 0 ≡ (get_or xs j 0 + c * get_or b j 0) % p) → ZeroFrom 8 xs → ZeroFrom 8 ys → Added p c 0 8 xs b ys
+added_each xs b ys each start end = record {
+  below = λ j l. absurd (omega arith);
+  within = λ j l. rw (Nat.zero-add j) (each j l);
+  above = λ j l. end j l ∙ sym (start j l);
+}
+
+-- where all eight are sums they are below p, whatever was added to
+pub sums_below : {p c : ℕ} {xs b ys : List ℕ} → 0 < p → Added p c 0 8 xs b ys → ZeroFrom 8 xs → Below p ys
+sums_below {p} {c} {xs} {b} {ys} some a z i = go (dec_lt i 8)
+  where
+    go : Dec (i < 8) → get_or ys i 0 < p
+    go (yes l) = subst (λ x. x < p) (sym (rw (Nat.zero-add i) at (a.within i l))) (Nat.mod-lt _ some)
+    go (no l) = subst (λ x. x < p) (sym (a.above i (omega arith) ∙ z i (omega arith))) some
+
 module _ {K : Type 0} {𝓚 : Field K} {d : Digits 𝓚} {p : ℕ} (L : Modulo 𝓚 d p) where
   -- the polynomial c x^k times b is added
-  pub added_poly : {c k n : ℕ} {xs b ys : List ℕ} → Added p c k n xs b ys → Below p xs → Below 256 b → ZeroFrom n b
+  pub added_poly : {c k n : ℕ} {xs b ys : List ℕ} → Added p c k n xs b ys → Below p ys → Below 256 xs → Below 256 b → ZeroFrom n b
       → from_word 𝓚 d (number ys) ≡ plus 𝓚 (from_word 𝓚 d (number xs)) (times 𝓚 (monomial 𝓚 (d.element c) k) (from_word 𝓚 d (number b)))
-  added_poly {c} {k} {n} {xs} {b} {ys} a h hb z = poly_is L ys _ (added_below L.positive a h) (from_split Same k low (λ j. high j (dec_lt j n)))
+  added_poly {c} {k} {n} {xs} {b} {ys} a small h hb z = poly_is L ys _ small (from_split Same k low (λ j. high j (dec_lt j n)))
     where
       Same : ℕ → Type 0
       Same i = d.element (get_or ys i 0) ≡ (plus 𝓚 (from_word 𝓚 d (number xs)) (times 𝓚 (monomial 𝓚 (d.element c) k) (from_word 𝓚 d (number b)))).coefficient i
 
       parts : (i : ℕ) (x : K) → (times 𝓚 (monomial 𝓚 (d.element c) k) (from_word 𝓚 d (number b))).coefficient i ≡ x → 𝓚.ring.add (d.element (get_or xs i 0)) x ≡ (plus 𝓚 (from_word 𝓚 d (number xs)) (times 𝓚 (monomial 𝓚 (d.element c) k) (from_word 𝓚 d (number b)))).coefficient i
-      parts i x e = sym (coefficient_plus 𝓚 _ _ i ∙ ap₂ 𝓚.ring.add (coefficient_below L xs h i) e)
+      parts i x e = sym (coefficient_plus 𝓚 _ _ i ∙ ap₂ 𝓚.ring.add (coefficient_byte L xs h i) e)
 
       low : (j : ℕ) → j < k → Same j
       low j l = ap d.element (a.below j l) ∙ sym (Ring.add-zero 𝓚.ring _) ∙ parts j 𝓚.ring.zero (coefficient_shift_below 𝓚 (d.element c) k _ j l)

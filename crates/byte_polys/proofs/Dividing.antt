@@ -27,8 +27,8 @@ module _ {K : Type 0} {𝓚 : Field K} {d : Digits 𝓚} {p : ℕ} (L : Modulo �
     pub sum : from_word 𝓚 d (number start) ≡ plus 𝓚 (times 𝓚 (from_word 𝓚 d (number quotient)) (from_word 𝓚 d (number b))) (from_word 𝓚 d (number rest))
 
   -- before the first turn nothing has been written
-  pub stage_start : (b : List ℕ) (n : ℕ) (start quotient : List ℕ) → Below p start → ZeroFrom 0 quotient → ZeroFrom (length start) start → Stage b n (length start) start quotient start
-  stage_start b n start quotient h z past = record {
+  pub stage_start : (b : List ℕ) (n top : ℕ) (start quotient : List ℕ) → Below p start → ZeroFrom 0 quotient → ZeroFrom top start → Stage b n top start quotient start
+  stage_start b n top start quotient h z past = record {
     quotient_below = λ i. let e = z i (omega arith) in let s = L.positive in omega arith;
     rest_below = h;
     unwritten = λ j l. z j (omega arith);
@@ -135,7 +135,7 @@ module _ {K : Type 0} {𝓚 : Field K} {d : Digits 𝓚} {p : ℕ} (L : Modulo �
 
         less : from_word 𝓚 d (number rest') ≡ plus 𝓚 (from_word 𝓚 d (number rest)) (times 𝓚 (negative 𝓚 (monomial 𝓚 (d.element c) k)) (from_word 𝓚 d (number b)))
         less =
-            added_poly L a s.rest_below (below_byte L b D.below) D.above
+            added_poly L a (added_below L.positive a s.rest_below) (below_byte L rest s.rest_below) (below_byte L b D.below) D.above
             ∙ ap (λ x. plus 𝓚 (from_word 𝓚 d (number rest)) (times 𝓚 x (from_word 𝓚 d (number b)))) (ap (λ x. monomial 𝓚 x k) (element_neg L c (omega arith)) ∙ monomial_negative (d.element c) k)
 
         at_top : k + n ≡ top

@@ -10,3 +10,4 @@ pub mod Sums
 pub mod Remainders
 pub mod Units
 pub mod Derivatives
+pub mod Owned

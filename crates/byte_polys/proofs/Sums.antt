@@ -12,8 +12,8 @@ use Rattle.polynomials.proofs.Coefficients.{coefficient_times_sum, times_vanishe
 use Rattle.polynomials.proofs.Ring.{polynomial_ring}
 use Rattle.byte_polys.specs.ByteField.{number}
 use Rattle.byte_polys.specs.Steps.{Below, ZeroFrom, Added, products}
-use Rattle.byte_polys.specs.Bytes.{Modulo, below_byte, coefficient_below, element_mod, element_neg, poly_is, bytes_zero, number_is}
-use Rattle.byte_polys.proofs.Adding.{added_poly}
+use Rattle.byte_polys.specs.Bytes.{Modulo, below_byte, coefficient_byte, element_mod, element_neg, poly_is, bytes_zero, number_is}
+use Rattle.byte_polys.proofs.Adding.{added_below, sums_below, added_poly}
 use Rattle.byte_polys.proofs.Dividing.{monomial_negative}
 use Rattle.byte_polys.proofs.Zeros.{Zeros}
 
@@ -32,15 +32,15 @@ module _ {K : Type 0} {𝓚 : Field K} {d : Digits 𝓚} {p : ℕ} (L : Modulo �
   one_multiple f = ap (λ c. times 𝓚 (monomial 𝓚 c 0) f) L.one ∙ Ring.one-mul (polynomial_ring 𝓚) f
 
   -- adding b adds its polynomial
-  pub sum_poly : {xs b ys : List ℕ} → Added p 1 0 8 xs b ys → Below p xs → Below p b → ZeroFrom 8 b
+  pub sum_poly : {xs b ys : List ℕ} → Added p 1 0 8 xs b ys → Below 256 xs → ZeroFrom 8 xs → Below 256 b → ZeroFrom 8 b
       → from_word 𝓚 d (number ys) ≡ plus 𝓚 (from_word 𝓚 d (number xs)) (from_word 𝓚 d (number b))
-  sum_poly {xs} {b} a hx hb z = added_poly L a hx (below_byte L b hb) z ∙ ap (plus 𝓚 (from_word 𝓚 d (number xs))) (one_multiple _)
+  sum_poly {xs} {b} a hx zx hb z = added_poly L a (sums_below L.positive a zx) hx hb z ∙ ap (plus 𝓚 (from_word 𝓚 d (number xs))) (one_multiple _)
 
   -- adding p − 1 times b takes its polynomial away
-  pub difference_poly : {xs b ys : List ℕ} → Added p (p - 1) 0 8 xs b ys → Below p xs → Below p b → ZeroFrom 8 b
+  pub difference_poly : {xs b ys : List ℕ} → Added p (p - 1) 0 8 xs b ys → Below 256 xs → ZeroFrom 8 xs → Below 256 b → ZeroFrom 8 b
       → from_word 𝓚 d (number ys) ≡ plus 𝓚 (from_word 𝓚 d (number xs)) (negative 𝓚 (from_word 𝓚 d (number b)))
-  difference_poly {xs} {b} a hx hb z =
-      added_poly L a hx (below_byte L b hb) z
+  difference_poly {xs} {b} a hx zx hb z =
+      added_poly L a (sums_below L.positive a zx) hx hb z
       ∙ ap (plus 𝓚 (from_word 𝓚 d (number xs)))
       (ap (λ c. times 𝓚 (monomial 𝓚 c 0) (from_word 𝓚 d (number b))) (element_neg L 1 L.positive)
       ∙ ap (λ m. times 𝓚 m (from_word 𝓚 d (number b))) (monomial_negative L (d.element 1) 0)
@@ -51,7 +51,7 @@ module _ {K : Type 0} {𝓚 : Field K} {d : Digits 𝓚} {p : ℕ} (L : Modulo �
   pub multiple_poly : {c : ℕ} {xs b ys : List ℕ} → Added p c 0 8 xs b ys → Zeros xs → Below 256 b → ZeroFrom 8 b
       → from_word 𝓚 d (number ys) ≡ times 𝓚 (monomial 𝓚 (d.element c) 0) (from_word 𝓚 d (number b))
   multiple_poly {c} {xs} {b} a hx hb z =
-      added_poly L a (zeros_below hx) hb z ∙ ap (λ f. plus 𝓚 f (times 𝓚 (monomial 𝓚 (d.element c) 0) (from_word 𝓚 d (number b)))) (bytes_zero L xs hx.each) ∙ Ring.zero-add (polynomial_ring 𝓚) _
+      added_poly L a (added_below L.positive a (zeros_below hx)) (below_byte L xs (zeros_below hx)) hb z ∙ ap (λ f. plus 𝓚 f (times 𝓚 (monomial 𝓚 (d.element c) 0) (from_word 𝓚 d (number b)))) (bytes_zero L xs hx.each) ∙ Ring.zero-add (polynomial_ring 𝓚) _
 
   -- and once b, its polynomial
   pub reduced_poly : {xs b ys : List ℕ} → Added p 1 0 8 xs b ys → Zeros xs → Below 256 b → ZeroFrom 8 b → from_word 𝓚 d (number ys) ≡ from_word 𝓚 d (number b)
@@ -79,16 +79,16 @@ module _ {K : Type 0} {𝓚 : Field K} {d : Digits 𝓚} {p : ℕ} (L : Modulo �
 
   -- and they are the coefficients of the product of the polynomials
   pub product_poly : (a b r : List ℕ) → ZeroFrom 15 r → ((k : ℕ) → k < 15 → get_or r k 0 ≡ products a b k (k + 1) % p)
-      → Below p a → Below p b → ZeroFrom 8 a → ZeroFrom 8 b → from_word 𝓚 d (number r) ≡ times 𝓚 (from_word 𝓚 d (number a)) (from_word 𝓚 d (number b))
+      → Below 256 a → Below 256 b → ZeroFrom 8 a → ZeroFrom 8 b → from_word 𝓚 d (number r) ≡ times 𝓚 (from_word 𝓚 d (number a)) (from_word 𝓚 d (number b))
   product_poly a b r end e ha hb za zb = poly_is L r _ (product_below a b r end e) (λ i. go i (dec_lt i 15))
     where
-      vanishes : (xs : List ℕ) → Below p xs → ZeroFrom 8 xs → (i : ℕ) → 8 ≤ i → (from_word 𝓚 d (number xs)).coefficient i ≡ 𝓚.ring.zero
-      vanishes xs h z i l = coefficient_below L xs h i ∙ ap d.element (z i l) ∙ element_zero 𝓚 d
+      vanishes : (xs : List ℕ) → Below 256 xs → ZeroFrom 8 xs → (i : ℕ) → 8 ≤ i → (from_word 𝓚 d (number xs)).coefficient i ≡ 𝓚.ring.zero
+      vanishes xs h z i l = coefficient_byte L xs h i ∙ ap d.element (z i l) ∙ element_zero 𝓚 d
 
       go : (i : ℕ) → Dec (i < 15) → d.element (get_or r i 0) ≡ (times 𝓚 (from_word 𝓚 d (number a)) (from_word 𝓚 d (number b))).coefficient i
       go i (yes l) =
           ap d.element (e i l) ∙ element_mod L _ ∙ ap (λ n. d.element (products a b i n)) (add-one i) ∙ products_sum a b i (suc i)
-          ∙ ap (sum 𝓚.ring (suc i)) (fun_ext (λ j. ap₂ 𝓚.ring.mul (sym (coefficient_below L a ha j)) (sym (coefficient_below L b hb (i - j)))))
+          ∙ ap (sum 𝓚.ring (suc i)) (fun_ext (λ j. ap₂ 𝓚.ring.mul (sym (coefficient_byte L a ha j)) (sym (coefficient_byte L b hb (i - j)))))
           ∙ sym (coefficient_times_sum 𝓚 _ _ i)
       go i (no l) =
           ap d.element (end i (omega arith)) ∙ element_zero 𝓚 d

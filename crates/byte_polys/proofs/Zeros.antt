@@ -1,7 +1,7 @@
 -- Lists of coefficients that are 0, throughout or from some place on. Assumes nothing.
-use Rattle.std.proofs.Common.{◌≡◌, ℕ, zero, suc, ◌<◌, ◌≤◌, List, [], ◌∷◌, length, get_or, refl, arith}
+use Rattle.std.proofs.Common.{◌≡◌, ℕ, ◌<◌, ◌≤◌, List, length, get_or, replicate, arith}
 use native.Mathlib.Decide.{dec_lt}
-use Rattle.std.proofs.lemmas.List.{get_or_past}
+use Rattle.std.proofs.lemmas.List.{get_or_past, get_or-replicate, length-replicate}
 use Rattle.byte_polys.specs.Steps.{ZeroFrom}
 
 -- past its end a list has no coefficients
@@ -20,23 +20,10 @@ zero_on xs n k e h i l = go (dec_lt i n)
 pub record Zeros (xs : List ℕ) : Type 0 where
   pub each : (i : ℕ) → get_or xs i 0 ≡ 0
 
--- no coefficients are nothing but zeros, and one zero more is one zero more
-zeros_none : Zeros []
-zeros_none = record { each = λ i. refl }
-
-zeros_more : {xs : List ℕ} → Zeros xs → Zeros (0 ∷ xs)
-zeros_more {xs} z = record { each = go }
+-- as an array that begins with zeros is
+pub zeros : (n : ℕ) → Zeros (replicate {A = ℕ} n 0)
+zeros n = record { each = λ i. go i (dec_lt i n) }
   where
-    go : (i : ℕ) → get_or (0 ∷ xs) i 0 ≡ 0
-    go zero = refl
-    go (suc i) = z.each i
-
--- the lists of zeros that the code begins with
-pub seven_zeros : Zeros (0 ∷ 0 ∷ 0 ∷ 0 ∷ 0 ∷ 0 ∷ 0 ∷ [])
-seven_zeros = zeros_more (zeros_more (zeros_more (zeros_more (zeros_more (zeros_more (zeros_more zeros_none))))))
-
-pub eight_zeros : Zeros (0 ∷ 0 ∷ 0 ∷ 0 ∷ 0 ∷ 0 ∷ 0 ∷ 0 ∷ [])
-eight_zeros = zeros_more seven_zeros
-
-pub fifteen_zeros : Zeros (0 ∷ 0 ∷ 0 ∷ 0 ∷ 0 ∷ 0 ∷ 0 ∷ 0 ∷ 0 ∷ 0 ∷ 0 ∷ 0 ∷ 0 ∷ 0 ∷ 0 ∷ [])
-fifteen_zeros = zeros_more (zeros_more (zeros_more (zeros_more (zeros_more (zeros_more (zeros_more eight_zeros))))))
+    go : (i : ℕ) → Dec (i < n) → get_or (replicate {A = ℕ} n 0) i 0 ≡ 0
+    go i (yes l) = get_or-replicate n i 0 0 l
+    go i (no l) = past_end (replicate n 0) n (length-replicate n 0) i (omega arith)

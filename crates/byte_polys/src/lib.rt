@@ -2,7 +2,6 @@
 // x^i, and the moduli are the squarefree monic polynomials of degree 1 to 7.
 #![tactic(auto)]
 
-mod arithmetic;
 mod division;
 mod domain;
 mod field;
@@ -13,6 +12,7 @@ mod product;
 mod quotients;
 mod reading;
 mod residues;
+mod row;
 mod squarefree;
 mod steps;
 mod value;

@@ -6,6 +6,7 @@ ghost use Rattle.byte_polys.specs.Steps.{Monic};
 
 use crate::field::BytePolys;
 use crate::value::{BytePoly, BytePolyModulus};
+use polynomial_domains::is_squarefree;
 
 impl BytePolys {
     // The polynomial of a word that is a legal modulus, and its degree; else none.
@@ -13,8 +14,7 @@ impl BytePolys {
         ensures { MatchOption result (legal_word (byte_polys self.p self.prime) w ≡ false) (λ x. (x.0.p ≡ self.p) × (number x.0.coefficients ≡ w) × Monic x.0.coefficients x.1 × (legal_word (byte_polys self.p self.prime) w ≡ true)) }
     {
         let a = self.canonical(w)?;
-        let n = a.monic_degree()?;
-        Some((a, n))
+        Some((a, a.monic_degree()?))
     }
 
     // The modulus of a word that is a legal modulus and squarefree; else none.
@@ -22,7 +22,7 @@ impl BytePolys {
         ensures { MatchOption result (¬ SquarefreeModulus (byte_polys self.p self.prime) w) (λ m. (m.p ≡ self.p) × (number m.coefficients ≡ w) × SquarefreeModulus (byte_polys self.p self.prime) w) }
     {
         let (a, degree) = self.legal(w)?;
-        if !self.no_square_divides(a) {
+        if !is_squarefree(&self, a) {
             return None;
         }
         let coefficients = a.coefficients;

@@ -38,10 +38,7 @@ impl BytePolys {
         if is_listed(p) {
             Ok(BytePolys { p })
         } else {
-            Err(Refusal {
-                reason: Reason::UnlistedPrime,
-                place: 0,
-            })
+            Err(Reason::UnlistedPrime.into())
         }
     }
 }

@@ -17,12 +17,7 @@ impl BytePoly {
     pub(crate) fn degree(self) -> Option<usize>
         ensures { MatchOption result (ZeroFrom 0 self.coefficients) (λ n. Top self.coefficients n) }
     {
-        for i in (0..8).rev() {
-            if self.coefficients[i] != 0 {
-                return Some(i);
-            }
-        }
-        None
+        self.coefficients.iter().rposition(|c| *c != 0)
     }
 }
 

@@ -1,56 +1,48 @@
-// Whether a polynomial is squarefree: over GF(p) that is so exactly when it is coprime to its derivative.
-ghost use Rattle.std.specs.Prelude.{◌≡◌};
-ghost use Rattle.algebra.specs.Divisibility.{Coprime, IsUnit, Squarefree};
-ghost use Rattle.domains.specs.Answers.{Decides, IsZero};
-ghost use Rattle.byte_polys.specs.ByteField.{byte_polys, number, poly};
+// The polynomials over GF(p), as far as it takes to see whether one is squarefree. A value of another p stands for 0.
+ghost use Rattle.std.specs.Prelude.{◌≡◌, true, ◌==◌};
+ghost use Rattle.byte_polys.specs.ByteField.{byte_polys, byte_scalars, poly, polynomial_of};
 
 use crate::field::BytePolys;
 use crate::value::BytePoly;
+use polynomial_domains::Polynomials;
 
 impl BytePolys {
-    // Whether no square of a non-unit divides a.
-    pub(crate) fn no_square_divides(self, a: BytePoly) -> bool
-        requires { a.p ≡ self.p }
-        ensures { Decides result (Squarefree (byte_polys self.p self.prime).euclidean.ring (poly self.p self.prime a.coefficients)) }
+    // The value itself, if it is the domain's own, else 0.
+    fn own(self, a: BytePoly) -> BytePoly
+        ensures p { result.p ≡ self.p }
+        ensures value { polynomial_of self.p self.prime true result.coefficients ≡ polynomial_of self.p self.prime (a.p == self.p) a.coefficients }
     {
-        let coefficients = self.derivative(&a.coefficients);
-        let derivative = BytePoly {
+        if a.p == self.p { a } else { self.zero() }
+    }
+}
+
+impl Polynomials for BytePolys {
+    type Polynomial = BytePoly;
+
+    ghost scalars = { λ d. byte_scalars d.p d.prime };
+
+    ghost stands_for = { λ d a. polynomial_of d.p d.prime (a.p == d.p) a.coefficients };
+
+    fn derivative(&self, a: BytePoly) -> BytePoly {
+        let a = self.own(a);
+        let coefficients = self.derivative_of(&a.coefficients);
+        BytePoly {
             coefficients,
             p: self.p,
-        };
-        self.coprime(a, derivative)
-    }
-
-    // Whether only units divide both a and b, by Euclid's chain of divisions.
-    fn coprime(self, a: BytePoly, b: BytePoly) -> bool
-        requires first { a.p ≡ self.p }
-        requires second { b.p ≡ self.p }
-        ensures { Decides result (Coprime (byte_polys self.p self.prime).euclidean.ring (poly self.p self.prime a.coefficients) (poly self.p self.prime b.coefficients)) }
-    {
-        let mut last = a;
-        let mut next = b;
-        while !self.vanishes(next) {
-            let (_, rest) = self.divide_values(last, next);
-            last = next;
-            next = rest;
         }
-        self.is_unit(last)
     }
 
-    // Whether a is 0.
-    pub(crate) fn vanishes(self, a: BytePoly) -> bool
-        requires { a.p ≡ self.p }
-        ensures { Decides result (IsZero (byte_polys self.p self.prime) (number a.coefficients)) }
-    {
-        a.word() == 0
+    // By 0 it is the dividend.
+    fn remainder(&self, a: BytePoly, b: BytePoly) -> BytePoly {
+        self.quotient_and_remainder(self.own(a), self.own(b)).1
     }
 
-    // Whether a is a constant other than 0.
-    fn is_unit(self, a: BytePoly) -> bool
-        requires { a.p ≡ self.p }
-        ensures { Decides result (IsUnit (byte_polys self.p self.prime).euclidean.ring (poly self.p self.prime a.coefficients)) }
-    {
-        match a.degree() {
+    fn is_zero(&self, a: BytePoly) -> bool {
+        self.vanishes(self.own(a))
+    }
+
+    fn is_unit(&self, a: BytePoly) -> bool {
+        match self.own(a).degree() {
             Some(n) => n == 0,
             None => false,
         }

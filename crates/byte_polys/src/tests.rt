@@ -4,17 +4,11 @@ use domains::Domain;
 use std::test::Fail;
 
 fn over(p: u8) -> Result<BytePolys, Fail> {
-    match BytePolys::new(p) {
-        Ok(d) => Ok(d),
-        Err(_) => Err(Fail::new("p is refused")),
-    }
+    Ok(BytePolys::new(p).ok().ok_or("p is refused")?)
 }
 
 fn modulo(d: BytePolys, w: u64) -> Result<BytePolyModulus, Fail> {
-    match d.modulus(w) {
-        Some(m) => Ok(m),
-        None => Err(Fail::new("the word is no modulus")),
-    }
+    Ok(d.modulus(w).ok_or("the word is no modulus")?)
 }
 
 fn zeros(d: BytePolys, pair: (BytePoly, BytePoly)) -> bool {
@@ -27,13 +21,9 @@ fn primes(rt: HostRuntime) -> Result<(), Fail> {
     assert!(rt; BytePolys::new(5).is_ok());
     assert!(rt; BytePolys::new(251).is_ok());
     for p in [1, 2, 4, 9, 253, 255] {
-        match BytePolys::new(p) {
-            Ok(_) => return Err(Fail::new("p is not listed")),
-            Err(refusal) => {
-                assert_eq!(rt; refusal.reason.number(), 8);
-                assert_eq!(rt; refusal.place, 0);
-            }
-        }
+        let refusal = BytePolys::new(p).err().ok_or("p is not listed")?;
+        assert_eq!(rt; u8::from(refusal.reason), 8);
+        assert_eq!(rt; refusal.place, 0);
     }
     Ok(())
 }

@@ -1,6 +1,6 @@
 // Values from words, and which words are legal moduli.
-ghost use Rattle.std.specs.Prelude.{◌≡◌, ℕ, MatchOption, ◌≢◌};
-ghost use Rattle.domains.specs.Answers.{zero_word};
+ghost use Rattle.std.specs.Prelude.{◌≡◌, false, ℕ, MatchOption, ◌≢◌};
+ghost use Rattle.domains.specs.Answers.{Decides, IsZero, zero_word};
 ghost use Rattle.byte_polys.specs.ByteField.{byte_polys, number, poly};
 ghost use Rattle.byte_polys.specs.Steps.{Monic};
 
@@ -19,17 +19,20 @@ impl BytePolys {
         }
     }
 
+    // Whether a value of the domain's own is 0.
+    pub(crate) fn vanishes(self, a: BytePoly) -> bool
+        ensures { a.p ≡ self.p → Decides result (IsZero (byte_polys self.p self.prime) (number a.coefficients)) }
+    {
+        a.word() == 0
+    }
+
     // The polynomial of a word: its bytes are reduced modulo p.
     pub(crate) fn value(self, w: u64) -> BytePoly
         ensures p { result.p ≡ self.p }
         ensures value { poly self.p self.prime result.coefficients ≡ (byte_polys self.p self.prime).element w }
         ensures word { number result.coefficients ≡ (byte_polys self.p self.prime).word ((byte_polys self.p self.prime).element w) }
     {
-        let coefficients = self.multiple(1, w.to_le_bytes());
-        BytePoly {
-            coefficients,
-            p: self.p,
-        }
+        self.plus_multiple([0; 8], 1, w.to_le_bytes()).value()
     }
 
     // The polynomial of a word that is its canonical word, so that no byte had to be reduced; else none.
@@ -37,7 +40,7 @@ impl BytePolys {
         ensures { MatchOption result ((byte_polys self.p self.prime).word ((byte_polys self.p self.prime).element w) ≢ w) (λ a. (a.p ≡ self.p) × (number a.coefficients ≡ w) × ((byte_polys self.p self.prime).word ((byte_polys self.p self.prime).element w) ≡ w)) }
     {
         let a = self.value(w);
-        if a.word() == w { Some(a) } else { None }
+        (a.word() == w).then_some(a)
     }
 }
 
@@ -47,10 +50,6 @@ impl BytePoly {
         ensures { MatchOption result ((n : ℕ) → Monic self.coefficients n → ⊥) (λ n. Monic self.coefficients n) }
     {
         let n = self.degree()?;
-        if 1 <= n && self.coefficients[n] == 1 {
-            Some(n)
-        } else {
-            None
-        }
+        (1 <= n && self.coefficients[n] == 1).then_some(n)
     }
 }

@@ -1,18 +1,28 @@
-use Rattle.std.proofs.Common.{refl, subst}
+use Rattle.std.proofs.Common.{refl, sym, subst, eq-eqb}
 use Rattle.algebra.specs.Divisibility.{Squarefree}
 use Rattle.byte_polys.specs.ByteField.{byte_polys}
 use Rattle.byte_polys.specs.SamePrime.{below_same}
+use Rattle.byte_polys.proofs.Owned.{own_element}
 use Rattle.byte_polys.proofs.field.BytePolys.modulus_of.Goals as goal
 
+pub returns-then-not-is_squarefree : goal.returns-then-not-is_squarefree
+unfolding byte_polys
+returns-then-not-is_squarefree c =
+    let d = c.args.self in
+    let found = c.in_ok-a.ensures in
+    λ s. c.if-not-is_squarefree.ensures (subst (Squarefree (byte_polys d.p d.prime).euclidean.ring) (sym (own_element d.p d.prime c.in_ok-a.a.coefficients (eq-eqb _ _ found.0) found.1)) s.squarefree)
+
 pub invariant_of-result : goal.invariant_of-result
+unfolding byte_polys
 invariant_of-result c =
+    let d = c.args.self in
     let a = c.in_ok-a.a in
     let found = c.in_ok-a.ensures in
     let monic = found.2 in
-    let free = c.if-not-no_square_divides.ensures in
+    let free = subst (Squarefree (byte_polys d.p d.prime).euclidean.ring) (own_element d.p d.prime c.in_ok-a.a.coefficients (eq-eqb _ _ found.0) refl) c.if-not-is_squarefree.ensures in
     record {
       below = below_same a.coefficients found.0 a.below;
-      prime = c.args.self.prime;
+      prime = d.prime;
       low = monic.low;
       high = monic.high;
       one = monic.one;
@@ -21,7 +31,8 @@ invariant_of-result c =
     }
 
 pub returns : goal.returns
+unfolding byte_polys
 returns c =
-    let M = byte_polys c.args.self.p c.args.self.prime in
+    let d = c.args.self in
     let found = c.in_ok-a.ensures in
-    (refl, found.1, record { legal = found.3; squarefree = subst (λ w. Squarefree M.euclidean.ring (M.element w)) found.1 c.if-not-no_square_divides.ensures })
+    (refl, found.1, record { legal = found.3; squarefree = subst (Squarefree (byte_polys d.p d.prime).euclidean.ring) (own_element d.p d.prime c.in_ok-a.a.coefficients (eq-eqb _ _ found.0) found.1) c.if-not-is_squarefree.ensures })

@@ -1,19 +1,14 @@
-use Rattle.std.proofs.Common.{◌≡◌, ◌^◌, ◌<◌, length, sym, refl, ap, ◌∙◌, subst, arith}
+use Rattle.std.proofs.Common.{◌≡◌, ◌^◌, ◌<◌, length, sym, ap, ◌∙◌, subst, arith}
 use Rattle.polynomials.specs.Words.{from_word}
 use Rattle.byte_polys.specs.ByteField.{byte_polys, field, byte_digits, number}
 use Rattle.byte_polys.specs.Steps.{Below}
-use Rattle.byte_polys.proofs.Adding.{added_below}
 use Rattle.byte_polys.specs.Bytes.{number_is}
-use Rattle.byte_polys.proofs.Zeros.{past_end, eight_zeros}
+use Rattle.byte_polys.specs.SamePrime.{below_same}
+use Rattle.byte_polys.proofs.Zeros.{past_end, zeros}
 use Rattle.byte_polys.specs.Instance.{modulo}
 use Rattle.byte_polys.proofs.Numbers.{bytes_of, bytes_below, number_bytes}
-use Rattle.byte_polys.proofs.Sums.{zeros_below, reduced_poly}
+use Rattle.byte_polys.proofs.Sums.{reduced_poly}
 use Rattle.byte_polys.proofs.field.BytePolys.value.Goals as goal
-
-pub invariant_of-result : goal.invariant_of-result
-invariant_of-result c =
-    let L = modulo c.args.self.p c.args.self.prime in
-    record { below = added_below L.positive c.multiple-coefficients.ensures (zeros_below L eight_zeros); prime = c.args.self.prime }
 
 pub returns : goal.returns
 unfolding byte_polys bytes_of
@@ -26,10 +21,12 @@ returns c =
     let eight : length c.to_le_bytes.result ≡ 8 = omega arith in
     let fits : c.args.w < 2 ^ 64 = omega arith in
     let value =
-    reduced_poly L c.multiple-coefficients.ensures eight_zeros (subst (Below 256) (sym is) (bytes_below c.args.w)) (past_end bytes 8 eight)
+    reduced_poly L c.plus_multiple.ensures.sum (zeros 8) (subst (Below 256) (sym is) (bytes_below c.args.w)) (past_end bytes 8 eight)
     ∙ ap (from_word (field p h) (byte_digits p h)) (ap number is ∙ number_bytes c.args.w fits) in
+    let same = c.value.ensures.coefficients in
+    let own = ap (λ d. d.p) c.plus_multiple.ensures.field in
     record {
-      p = refl;
-      value = value;
-      word = number_is L c.multiple-coefficients.result _ (added_below L.positive c.multiple-coefficients.ensures (zeros_below L eight_zeros)) value;
+      p = c.value.ensures.p ∙ own;
+      value = ap (λ cs. from_word (field p h) (byte_digits p h) (number cs)) same ∙ value;
+      word = ap number same ∙ number_is L c.plus_multiple.result.coefficients _ (below_same c.plus_multiple.result.coefficients own c.plus_multiple.result.below) value;
     }
