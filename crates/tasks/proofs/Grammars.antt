@@ -1,19 +1,22 @@
 -- Reading and checking accept the grammar.
-use Rattle.std.proofs.Common.{◌≡◌, ℕ, ◌≤◌, List, [], ◌∷◌, length, Ok, Err, Result, sym, refl, ap, ◌∙◌, subst, zero-add, arith}
+use Rattle.std.proofs.Common.{◌≡◌, ℕ, ◌≤◌, List, [], ◌∷◌, length, Some, Option, Ok, Err, Result, sym, ap, ◌∙◌, subst, zero-add, arith}
+use Rattle.std.specs.Option.{unwrap_or}
 use Rattle.std.specs.Result.{result_and}
 use Rattle.std.proofs.lemmas.Bool.Decides.{nat_tests}
 use Rattle.domains.specs.declared.refusal.Reason.{Reason}
 use Rattle.domains.specs.declared.refusal.Refusal.{Refusal}
-use Rattle.tasks.specs.Grammar.{Accepted, Bytes, Closed, Grammatical, joined}
-use Rattle.tasks.specs.GrammarLaws.{AcceptLaws, GrammarLaws, Rejected}
+use Rattle.tasks.specs.CheckLaws.{command_at}
+use Rattle.tasks.specs.Grammar.{Accepted, At, Bytes, Closed, Grammatical, joined}
+use Rattle.tasks.specs.GrammarLaws.{AcceptLaws, GrammarLaws, IsProgram, Rejected}
 use Rattle.tasks.specs.Items.{Item, placed}
 use Rattle.tasks.specs.Programs.{Verdict}
 use Rattle.tasks.specs.ReadLaws.{Fitting, ReadRefusal, ReadTable}
-use Rattle.tasks.specs.Reading.{checking, ending, judged, jumps, laid, reading, walked}
+use Rattle.tasks.specs.Reading.{ending, jumps, laid, reading, tabled, walked}
 use Rattle.tasks.specs.declared.command.Command.{Command}
+use Rattle.tasks.specs.declared.command.Command.TheVariants.{End}
 use Rattle.tasks.specs.declared.reading.ReadError.{ReadError}
 use Rattle.tasks.specs.declared.reading.ReadError.TheVariants.{Refused, NoMemory}
-use Rattle.tasks.proofs.Offsets.{both, closes_ending, ending_closes, entry_at, entry_elsewhere, jump_landing, jumps_land, land_jumps, landing_jump}
+use Rattle.tasks.proofs.Offsets.{both, closes_ending, command_nowhere, command_there, ending_closes, jump_landing, jumps_land, land_jumps, landing_jump}
 use Rattle.tasks.proofs.Spellings.{walked_joined, walked_written}
 use Rattle.tasks.specs.Walks.{fitting}
 
@@ -54,50 +57,45 @@ complete bs is g =
 unique : (bs : List ℕ) (is js : List Item) → Grammatical bs is → Grammatical bs js → is ≡ js
 unique bs is js g h = let a = (complete bs is g).reads in let b = (complete bs js h).reads in cc
 
+-- the table at an offset
+there : (is : List Item) (p : ℕ) (i : Item) → At is p i → command_at (tabled 0 is) p ≡ Some (placed p i)
+there is p i a = command_there 0 is p i a ∙ ap (λ (n : ℕ). Some (placed n i)) (zero-add p)
+
 pub grammar_laws : (bs : List ℕ) → GrammarLaws bs
 grammar_laws bs = record {
   sound = sound bs;
   complete = complete bs;
   unique = unique bs;
-  command = λ is p i a. entry_at 0 is p i a ∙ ap (λ (n : ℕ). placed n i) (zero-add p);
-  elsewhere = λ is p h. entry_elsewhere 0 is p h;
+  there = there;
+  nowhere = command_nowhere 0;
+  command = λ is p i a. ap (λ c. unwrap_or c (End 240)) (there is p i a);
+  elsewhere = λ is p h. ap (λ c. unwrap_or c (End 240)) (command_nowhere 0 is p h);
 }
 
--- what is judged by reading alone, and by checking
-judged_reading : (bs : List ℕ) (e : Reason × ℕ) → reading bs ≡ Err e → judged bs ≡ Err e
-judged_reading bs e h = rw (h, judged) refl
-
-judged_checking : (bs : List ℕ) (is : List Item) (e : Reason × ℕ) → reading bs ≡ Ok is → checking is ≡ Err e → judged bs ≡ Err e
-judged_checking bs is e h k =
-    rw (h, judged) (ap {B = Result (List Item) (Reason × ℕ)} (λ c. elim c [ Err d ↦ Err d | Ok _ ↦ Ok is ]) k)
-
-unread : (bs : List ℕ) (e : ReadError) → ReadRefusal bs e → Rejected bs e
+-- what is refused is no program
+pub unread : (bs : List ℕ) (e : ReadError) → ReadRefusal bs e → Rejected bs e
 unread bs NoMemory h = tt
 unread bs (Refused e) h = record {
-  refusal = judged_reading bs (e.reason, e.place) h;
-  none = λ is g. let a = (complete bs is g).reads in let z : ◌≡◌ {A = ℕ} 0 1 = cc in omega arith;
+  refusal = grind arith;
+  none = λ is g. let a = (complete bs is g).reads in cc;
 }
 
-unchecked : (bs : List ℕ) (cs : List Command) (e : Refusal) → ReadTable bs cs → Verdict cs (Err (e.reason, e.place)) → Rejected bs (Refused e)
-unchecked bs cs e t v = record {
-  refusal = judged_checking bs t.0 (e.reason, e.place) t.1.reads (v.given bs t.0 t.1);
-  none = λ is g.
-      let r = t.1.reads in
-      let a = complete bs is g in
-      let f = a.reads in
-      let j : t.0 ≡ is = cc in
-      let m = subst (λ (js : List Item). checking js ≡ Err (e.reason, e.place)) j (v.given bs t.0 t.1) in
-      let n = a.checks in
-      let z : ◌≡◌ {A = ℕ} 0 1 = cc in omega arith;
+pub unchecked : (bs : List ℕ) (cs : List (Option Command)) (e : Refusal) → ReadTable bs cs → Verdict cs (Err (e.reason, e.place)) → Rejected bs (Refused e)
+unchecked bs cs e t v =
+    let c = v.given bs t.0 t.1 in
+    let r = t.1.reads in
+    record {
+      refusal = grind arith;
+      none = λ is g. let a = complete bs is g in grind (arith, a.reads, a.checks);
+    }
+
+-- what is accepted is one
+pub accepted : (bs : List ℕ) (cs ds : List (Option Command)) → Bytes bs → ReadTable bs cs → Verdict cs (Ok tt) → ds ≡ cs → IsProgram bs ds
+accepted bs cs ds b t v e = record {
+  items = t.0;
+  grammatical = sound bs b t.0 (record { reads = t.1.reads; checks = v.given bs t.0 t.1 });
+  table = e ∙ t.1.table;
 }
 
 pub accept_laws : (bs : List ℕ) → AcceptLaws bs
-accept_laws bs = record {
-  accepts = λ cs ds b t v e. record {
-    items = t.0;
-    grammatical = sound bs b t.0 (record { reads = t.1.reads; checks = v.given bs t.0 t.1 });
-    table = e ∙ t.1.table;
-  };
-  unread = unread bs;
-  unchecked = unchecked bs;
-}
+accept_laws bs = record { accepts = accepted bs; unread = unread bs; unchecked = unchecked bs }

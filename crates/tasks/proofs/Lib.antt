@@ -1,8 +1,8 @@
-pub mod Cells
-mod Checks
+pub mod Checks
 pub mod Effects
 pub mod Fronts
-mod Grammars
+pub mod Grammars
+pub mod Lasts
 pub mod Offsets
 pub mod Spellings
 pub mod Steps

@@ -1,6 +1,9 @@
 -- Steps and runs of the machine: at most one state after as many steps, and a row of the machine modulo m, reduced by a
 -- divisor of m, is the machine modulo that divisor. Assumes nothing.
 use Rattle.std.proofs.Common.{◌≡◌, ℕ, zero, true, List, length, set, None, sym, refl, ap, ◌∙◌, subst, inl, inr, length-set}
+use Rattle.std.specs.List.{range_with_len}
+use Rattle.std.proofs.lemmas.Simd.{map-map}
+use Rattle.std.proofs.lemmas.List.FromFn.{length-map-range_with_len}
 use mathlib.Core.Path.{fun_ext}
 use Rattle.algebra.specs.Divisibility.{Divides, Irreducible}
 use Rattle.algebra.proofs.Congruence.{congruent_self}
@@ -10,7 +13,6 @@ use Rattle.tasks.specs.Laws.{MachineLaws}
 use Rattle.tasks.specs.Machine.{State, Effect, moves, ends, Does, after, Step, initial, Run, started, stepped, reduced, listed}
 use Rattle.tasks.specs.declared.command.Command.{Command}
 use Rattle.tasks.specs.declared.command.Command.TheVariants.{Set, Copy, Add, Subtract, Multiply, Invert, Test, Go, End}
-use Rattle.tasks.proofs.Cells.{map_listed, length_listed}
 use Rattle.tasks.proofs.Effects.{does_unique, does_something, does_reduced, down_residue, reduced_effect}
 
 module _ {M : Meaning} (L : Laws M) (begin : ℕ) (words : ℕ → ℕ) (orders : ℕ → Command) (allowed : (place : ℕ) → Allowed (orders place)) (limit : ℕ) where
@@ -69,7 +71,7 @@ module _ {M : Meaning} (L : Laws M) (begin : ℕ) (words : ℕ → ℕ) (orders 
 
   -- every run has 64 cells
   run_cells : {m : M.Element} {n : ℕ} {s : State} → Run M begin words orders limit m n s → length s.cells ≡ 64
-  run_cells {m} started = length_listed 64 (λ i. residue M m (M.element (words i)))
+  run_cells {m} started = length-map-range_with_len (λ i. residue M m (M.element (words i))) 0 64
   run_cells (stepped r p) = step_cells _ _ _ p (run_cells r)
 
   runs_equal : {m : M.Element} (legal : M.legal m ≡ true) {n : ℕ} {s t : State} → Run M begin words orders limit m n s → Run M begin words orders limit m n t → s ≡ t
@@ -81,7 +83,7 @@ module _ {M : Meaning} (L : Laws M) (begin : ℕ) (words : ℕ → ℕ) (orders 
   initial_reduced : (m g : M.Element) → M.legal m ≡ true → M.legal g ≡ true → Divides M.euclidean.ring g m → reduced M g (initial M begin words orders limit m) ≡ initial M begin words orders limit g
   initial_reduced m g lm lg d =
       ap (λ cs. record { place = begin; cells = cs; steps = 0; end = None })
-      (map_listed (λ w. residue M g (M.element w)) 64 (λ i. residue M m (M.element (words i))) ∙ ap (listed 64) (fun_ext λ i. down_residue L lm lg d (M.element (words i)) (M.element (words i)) (congruent_self M.euclidean.ring (M.element (words i)))))
+      (map-map (λ w. residue M g (M.element w)) (λ i. residue M m (M.element (words i))) (range_with_len 0 64) ∙ ap (listed 64) (fun_ext λ i. down_residue L lm lg d (M.element (words i)) (M.element (words i)) (congruent_self M.euclidean.ring (M.element (words i)))))
 
   runs_reduced : {m g : M.Element} → M.legal m ≡ true → M.legal g ≡ true → Divides M.euclidean.ring g m → {n : ℕ} {s : State} → Run M begin words orders limit m n s → Run M begin words orders limit g n (reduced M g s)
   runs_reduced {m} {g} lm lg d started = subst (Run M begin words orders limit g zero) (sym (initial_reduced m g lm lg d)) started

@@ -1,12 +1,12 @@
 -- The commands of a program that was read are allowed.
-use Rattle.std.specs.Prelude.{◌≡◌, ℕ, zero, suc, ◌+◌, ◌-◌, true, List, [], ◌∷◌, ◌++◌, replicate, refl}
+use Rattle.std.specs.Prelude.{◌≡◌, ℕ, zero, suc, ◌+◌, ◌-◌, true, List, [], ◌∷◌, ◌++◌, replicate, None, Option, refl}
 use Rattle.std.proofs.Math.Logic.{∥∥₁_elim}
 use Rattle.std.proofs.Math.Bridge.{le_prop}
 use Rattle.std.proofs.Common.{arith}
 use Rattle.std.proofs.lemmas.Bool.Decides.{nat_tests}
 use Rattle.tasks.specs.CheckLaws.{entry}
 use Rattle.tasks.specs.Commands.{Allowed}
-use Rattle.tasks.specs.Items.{Item, set_item, copy_item, add_item, subtract_item, multiply_item, invert_item, test_item, go_item, end_item, in_range, placed, size}
+use Rattle.tasks.specs.Items.{Item, in_range, placed, size}
 use Rattle.tasks.specs.Programs.{IsChecked}
 use Rattle.tasks.specs.Reading.{tabled}
 use Rattle.tasks.specs.declared.command.Command.{Command}
@@ -27,17 +27,9 @@ allowed_prop (End c) = le_prop
 
 -- the command of an item in range is allowed
 allowed_placed : (p : ℕ) (i : Item) → in_range i ≡ true → Allowed (placed p i)
-allowed_placed p (set_item d w) h = grind (arith, nat_tests)
-allowed_placed p (copy_item d a) h = (grind (arith, nat_tests), grind (arith, nat_tests))
-allowed_placed p (add_item d a b) h = (grind (arith, nat_tests), grind (arith, nat_tests), grind (arith, nat_tests))
-allowed_placed p (subtract_item d a b) h = (grind (arith, nat_tests), grind (arith, nat_tests), grind (arith, nat_tests))
-allowed_placed p (multiply_item d a b) h = (grind (arith, nat_tests), grind (arith, nat_tests), grind (arith, nat_tests))
-allowed_placed p (invert_item d a) h = (grind (arith, nat_tests), grind (arith, nat_tests))
-allowed_placed p (test_item a z) h = grind (arith, nat_tests)
-allowed_placed p (go_item n) h = tt
-allowed_placed p (end_item c) h = grind (arith, nat_tests)
+allowed_placed p i h = grind (arith, nat_tests)
 
-allowed_filler : (n : ℕ) (cs : List Command) → ((k : ℕ) → Allowed (entry cs k)) → (k : ℕ) → Allowed (entry (replicate n (End 240) ++ cs) k)
+allowed_filler : (n : ℕ) (cs : List (Option Command)) → ((k : ℕ) → Allowed (entry cs k)) → (k : ℕ) → Allowed (entry (replicate n None ++ cs) k)
 allowed_filler zero cs h k = h k
 allowed_filler (suc n) cs h zero = omega arith
 allowed_filler (suc n) cs h (suc k) = allowed_filler n cs h k
@@ -48,6 +40,6 @@ allowed_table p (i ∷ is) r zero = allowed_placed p i r.0
 allowed_table p (i ∷ is) r (suc k) = allowed_filler (size i - 1) (tabled (p + size i) is) (allowed_table (p + size i) is r.1) k
 
 -- so are all commands of a checked program
-pub allowed_checked : (cs : List Command) → ∥ IsChecked cs ∥₁ → (k : ℕ) → Allowed (entry cs k)
+pub allowed_checked : (cs : List (Option Command)) → ∥ IsChecked cs ∥₁ → (k : ℕ) → Allowed (entry cs k)
 allowed_checked cs h k =
     ∥∥₁_elim h (allowed_prop (entry cs k)) (λ x. rw x.program.table (allowed_table 0 x.items (program_ranged x.bytes x.items cs x.program) k))

@@ -36,15 +36,9 @@ At (j ∷ is) p i = ((p ≡ 0) × (j ≡ i)) ⊎ ((q : ℕ) × (p ≡ size j + q
 
 -- TEST jumps to its zero place, and GO to its place
 abbrev pub JumpsTo : Item → ℕ → Type 0
-JumpsTo (set_item d w) t = ⊥
-JumpsTo (copy_item d a) t = ⊥
-JumpsTo (add_item d a b) t = ⊥
-JumpsTo (subtract_item d a b) t = ⊥
-JumpsTo (multiply_item d a b) t = ⊥
-JumpsTo (invert_item d a) t = ⊥
 JumpsTo (test_item a z) t = t ≡ z
 JumpsTo (go_item n) t = t ≡ n
-JumpsTo (end_item c) t = ⊥
+JumpsTo i t = ⊥
 
 -- there is a last item, GO or END
 abbrev pub Closed : List Item → Type 0

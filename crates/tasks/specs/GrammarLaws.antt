@@ -1,7 +1,7 @@
 -- What reading and checking have to do with the grammar. Assumes nothing.
-use Rattle.std.specs.Prelude.{◌≡◌, ℕ, List, Ok, Err}
+use Rattle.std.specs.Prelude.{◌≡◌, ℕ, List, Some, None, Option, Ok, Err}
 use Rattle.domains.specs.declared.refusal.Refusal.{Refusal}
-use Rattle.tasks.specs.CheckLaws.{entry}
+use Rattle.tasks.specs.CheckLaws.{command_at, entry}
 use Rattle.tasks.specs.Items.{Item, placed}
 use Rattle.tasks.specs.ReadLaws.{ReadRefusal, ReadTable}
 use Rattle.tasks.specs.Reading.{judged, tabled}
@@ -18,12 +18,15 @@ pub record GrammarLaws (bs : List ℕ) : Type 0 where
   pub complete : (is : List Item) → Grammatical bs is → Accepted bs is
   -- these are the only items
   pub unique : (is js : List Item) → Grammatical bs is → Grammatical bs js → is ≡ js
-  -- the table has at an offset the command of the item there, and elsewhere END 240
+  -- the table has at an offset the command of the item there, and elsewhere none
+  pub there : (is : List Item) (p : ℕ) (i : Item) → At is p i → command_at (tabled 0 is) p ≡ Some (placed p i)
+  pub nowhere : (is : List Item) (p : ℕ) → ((i : Item) → At is p i → ⊥) → command_at (tabled 0 is) p ≡ None
+  -- so the entry of an offset is that command, and elsewhere it is END 240
   pub command : (is : List Item) (p : ℕ) (i : Item) → At is p i → entry (tabled 0 is) p ≡ placed p i
   pub elsewhere : (is : List Item) (p : ℕ) → ((i : Item) → At is p i → ⊥) → entry (tabled 0 is) p ≡ End 240
 
 -- it is the table of the items that the bytes are a program with
-pub record IsProgram (bs : List ℕ) (cs : List Command) : Type 0 where
+pub record IsProgram (bs : List ℕ) (cs : List (Option Command)) : Type 0 where
   pub items : List Item
   pub grammatical : Grammatical bs items
   pub table : cs ≡ tabled 0 items
@@ -39,6 +42,6 @@ Rejected bs (Refused e) = NoProgram bs e
 Rejected bs NoMemory = Unit {0}
 
 pub record AcceptLaws (bs : List ℕ) : Type 0 where
-  pub accepts : (cs ds : List Command) → Bytes bs → ReadTable bs cs → Verdict cs (Ok tt) → ds ≡ cs → IsProgram bs ds
+  pub accepts : (cs ds : List (Option Command)) → Bytes bs → ReadTable bs cs → Verdict cs (Ok tt) → ds ≡ cs → IsProgram bs ds
   pub unread : (e : ReadError) → ReadRefusal bs e → Rejected bs e
-  pub unchecked : (cs : List Command) (e : Refusal) → ReadTable bs cs → Verdict cs (Err (e.reason, e.place)) → Rejected bs (Refused e)
+  pub unchecked : (cs : List (Option Command)) (e : Refusal) → ReadTable bs cs → Verdict cs (Err (e.reason, e.place)) → Rejected bs (Refused e)

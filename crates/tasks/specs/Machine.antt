@@ -1,6 +1,7 @@
 -- The machine that runs a task modulo m: the field machine where m is an irreducible g, and a row of a case book at the
 -- row's own modulus. Assumes nothing.
-use Rattle.std.specs.Prelude.{◌≡◌, ℕ, zero, suc, cond, ◌⊎◌, List, [], ◌∷◌, map, Some, None, Option, ◌==◌, slice_index, slice_set}
+use Rattle.std.specs.Prelude.{◌≡◌, ℕ, zero, suc, cond, ◌⊎◌, List, map, Some, None, Option, ◌==◌, slice_index, slice_set}
+use Rattle.std.specs.List.{range_with_len}
 use Rattle.algebra.specs.Divisibility.{Divides}
 use Rattle.domains.specs.Answers.{sum, difference, times}
 use Rattle.domains.specs.Euclid.{InverseWord}
@@ -52,8 +53,7 @@ after limit s (ends c) = record { place = s.place; cells = s.cells; steps = suc 
 
 -- the words of the first n cells, by their number
 abbrev pub listed : ℕ → (ℕ → ℕ) → List ℕ
-listed zero f = []
-listed (suc n) f = f 0 ∷ listed n (λ i. f (suc i))
+listed n f = map f (range_with_len 0 n)
 
 -- a task: its start place, start words and commands; and a limit on the steps
 module _ (M : Meaning) (begin : ℕ) (words : ℕ → ℕ) (orders : ℕ → Command) (limit : ℕ) (m : M.Element) where

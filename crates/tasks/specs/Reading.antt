@@ -1,11 +1,10 @@
 -- Which bytes are a program, by an executable definition: reading from the front, then checking. Assumes nothing.
-use Rattle.std.specs.Prelude.{ℕ, zero, suc, ◌+◌, ◌-◌, ◌*◌, Bool, true, false, cond, ◌&&◌, ◌||◌, List, [], ◌∷◌, ◌++◌, length, drop, replicate, Ok, Err, Result, ◌==◌, nat_le, slice_index, slice_index_or}
+use Rattle.std.specs.Prelude.{ℕ, zero, suc, ◌+◌, ◌-◌, ◌*◌, Bool, true, false, cond, ◌&&◌, ◌||◌, List, [], ◌∷◌, ◌++◌, length, drop, replicate, Some, None, Option, Ok, Err, Result, ◌==◌, nat_le, slice_index, slice_index_or}
 use Rattle.std.specs.Result.{result_and}
 use Rattle.domains.specs.declared.refusal.Reason.{Reason}
 use Rattle.domains.specs.declared.refusal.Reason.TheVariants.{ProgramLength, UnknownCommand, MissingOperands, OperandRange, JumpTarget, LastCommand}
 use Rattle.tasks.specs.Items.{Item, set_item, copy_item, add_item, subtract_item, multiply_item, invert_item, test_item, go_item, end_item, length_of, size, in_range, placed}
 use Rattle.tasks.specs.declared.command.Command.{Command}
-use Rattle.tasks.specs.declared.command.Command.TheVariants.{End}
 
 -- the number of n bytes from the i-th on, the lowest first
 abbrev pub number : ℕ → List ℕ → ℕ → ℕ
@@ -64,25 +63,13 @@ starts_at (x ∷ xs) p = x.0 == p || starts_at xs p
 abbrev pub landing : List (ℕ × Item) → Item → Bool
 landing all (test_item a z) = starts_at all z
 landing all (go_item n) = starts_at all n
-landing all (set_item d w) = true
-landing all (copy_item d a) = true
-landing all (add_item d a b) = true
-landing all (subtract_item d a b) = true
-landing all (multiply_item d a b) = true
-landing all (invert_item d a) = true
-landing all (end_item c) = true
+landing all i = true
 
 -- GO and END
 abbrev pub closing : Item → Bool
 closing (go_item n) = true
 closing (end_item c) = true
-closing (set_item d w) = false
-closing (copy_item d a) = false
-closing (add_item d a b) = false
-closing (subtract_item d a b) = false
-closing (multiply_item d a b) = false
-closing (invert_item d a) = false
-closing (test_item a z) = false
+closing i = false
 
 -- the jumps of some of the items, from the front
 abbrev pub jumps : List (ℕ × Item) → List (ℕ × Item) → Result (Unit {0}) (Reason × ℕ)
@@ -103,7 +90,7 @@ checking is = result_and (jumps (laid 0 is) (laid 0 is)) (ending (laid 0 is))
 abbrev pub judged : List ℕ → Result (List Item) (Reason × ℕ)
 judged bs = elim (reading bs) [ Err e ↦ Err e | Ok is ↦ elim (checking is) [ Err e ↦ Err e | Ok _ ↦ Ok is ] ]
 
--- the commands by their place: an item's command at its first byte, END 240 at its other bytes
-abbrev pub tabled : ℕ → List Item → List Command
+-- the commands by their place: an item's command at its first byte, none at its other bytes
+abbrev pub tabled : ℕ → List Item → List (Option Command)
 tabled p [] = []
-tabled p (i ∷ is) = placed p i ∷ (replicate (size i - 1) (End 240) ++ tabled (p + size i) is)
+tabled p (i ∷ is) = Some (placed p i) ∷ (replicate (size i - 1) None ++ tabled (p + size i) is)

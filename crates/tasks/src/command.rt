@@ -1,7 +1,7 @@
 // The commands that a task is made of.
 
 // A command with its operands and its next places. Cells are numbered from 0 to 63.
-#[derive(Clone, Copy)]
+#[derive(Clone, Copy, PartialEq, Eq, Debug)]
 pub enum Command {
     // Puts the residue of a word into a cell.
     Set {

@@ -1,7 +1,6 @@
 // What a task is: a start, and a command for every place; and the machine that runs it.
 #![tactic(auto)]
 
-mod checking;
 mod command;
 mod front;
 mod grammar;
@@ -9,6 +8,7 @@ mod machine;
 mod program;
 mod reading;
 mod running;
+mod table;
 mod task;
 #[cfg(test)]
 mod tests;

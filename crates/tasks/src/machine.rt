@@ -7,5 +7,5 @@ use domains::Domain;
 // What holds of the machine over any domain, task and limit. It does nothing, and nothing calls it yet: its contract
 // states the theorems.
 pub(crate) fn machine_laws<D: Domain, T: Task>(d: &D, t: &T, limit: u16)
-    ensures { MachineLaws (D.Domain.meaning d.now) (T.Task.begin t.now) (T.Task.words t.now) (T.Task.orders t.now) limit }
+    ensures { MachineLaws (D.view d.now).meaning (T.begin t.now) (T.words t.now) (T.orders t.now) limit }
 {}

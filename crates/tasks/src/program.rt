@@ -1,27 +1,42 @@
 // Byte programs: the two types of them, one only read and one checked.
-ghost use Rattle.std.specs.Prelude.{◌≤◌, vec_len};
-ghost use Rattle.tasks.specs.Programs.{IsChecked, IsRead};
+ghost use Rattle.std.specs.Prelude.{◌≡◌, Ok as Right, Err as Wrong, MatchResult};
+ghost use Rattle.tasks.specs.Programs.{IsChecked, IsRead, Verdict};
 
 use super::command::Command;
+use super::table::Table;
+use domains::Refusal;
 
-// The code of an END that no program has as its own.
-pub(crate) const NO_CODE: u8 = 240;
-
-// What stands at a place that is no command.
-pub(crate) const NO_COMMAND: Command = Command::End { code: NO_CODE };
-
-// A program that was read. Both types have a command for every byte: at the first byte of a command that command, at
-// its other bytes END 240.
+// A program that was read.
 #[derive(Drop)]
 pub struct ReadProgram {
-    pub(crate) commands: Vec<Command>,
-    ghost short: { vec_len commands ≤ 1024 },
-    ghost written: { ∥ IsRead commands.items ∥₁ },
+    pub(crate) table: Table,
+    ghost written: { ∥ IsRead table ∥₁ },
 }
 
 // A program that was read and checked: every jump goes to a command, and the last command is GO or END.
 #[derive(Drop)]
 pub struct CheckedProgram {
-    pub(crate) commands: Vec<Command>,
-    ghost written: { ∥ IsChecked commands.items ∥₁ },
+    pub(crate) table: Table,
+    ghost written: { ∥ IsChecked table ∥₁ },
+}
+
+impl ReadProgram {
+    // Checks the jumps from the front, then the last command.
+    #[tactic(auto, using(crate::proofs::Checks::stray, crate::proofs::Checks::ended, crate::proofs::Checks::checked))]
+    pub fn check(self) -> Result<CheckedProgram, Refusal>
+        ensures { MatchResult result (λ q. Verdict self.table (Right tt) × (q.table ≡ self.table)) (λ e. Verdict self.table (Wrong (e.reason, e.place))) }
+    {
+        self.table.check_jumps()?;
+        self.table.check_end()?;
+        Ok(CheckedProgram { table: self.table })
+    }
+}
+
+impl CheckedProgram {
+    // An entry for every byte of the program: at the first byte of a command that command, at its other bytes none.
+    pub fn table(&self) -> &[Option<Command>]
+        ensures { result.now ≡ self.now.table }
+    {
+        self.table.as_slice()
+    }
 }

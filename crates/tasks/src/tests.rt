@@ -12,7 +12,7 @@ const ACCEPTED: [u8; 19] = [1, 0, 2, 0, 0, 0, 0, 0, 0, 0, 7, 0, 17, 0, 6, 1, 0, 
 // Whether a program is refused with a number and a place.
 fn refused(heap: Global, bytes: &[u8], number: u8, place: u32) -> bool {
     match accept(heap, bytes) {
-        Err(ReadError::Refused(refusal)) => refusal.reason.number() == number
+        Err(ReadError::Refused(refusal)) => u8::from(refusal.reason) == number
             && refusal.place == place,
         _ => false,
     }
@@ -21,39 +21,43 @@ fn refused(heap: Global, bytes: &[u8], number: u8, place: u32) -> bool {
 #[test]
 fn commands_stand_at_their_places(rt: HostRuntime) -> Result<(), Fail> {
     let program = accept(rt.alloc(), &ACCEPTED).ok().ok_or("refused")?;
-    assert!(rt;
-        matches!(
-            program.command(0),
-            Command::Set {
-                target: 0,
-                word: 2,
-                next: 10
-            }
-        )
+    assert_eq!(rt;
+        program.command(0),
+        Command::Set {
+            target: 0,
+            word: 2,
+            next: 10
+        }
     );
-    assert!(rt;
-        matches!(
-            program.command(10),
-            Command::Test {
-                source: 0,
-                zero: 17,
-                other: 14
-            }
-        )
+    assert_eq!(rt;
+        program.command(10),
+        Command::Test {
+            source: 0,
+            zero: 17,
+            other: 14
+        }
     );
-    assert!(rt;
-        matches!(
-            program.command(14),
-            Command::Invert {
-                target: 1,
-                source: 0,
-                next: 17
-            }
-        )
+    assert_eq!(rt;
+        program.command(14),
+        Command::Invert {
+            target: 1,
+            source: 0,
+            next: 17
+        }
     );
-    assert!(rt; matches!(program.command(17), Command::End { code: 0 }));
-    assert!(rt; matches!(program.command(11), Command::End { code: 240 }));
-    assert!(rt; matches!(program.command(19), Command::End { code: 240 }));
+    assert_eq!(rt; program.command(17), Command::End { code: 0 });
+    assert_eq!(rt; program.command(11), Command::End { code: 240 });
+    assert_eq!(rt; program.command(19), Command::End { code: 240 });
+    Ok(())
+}
+
+#[test]
+fn a_table_has_an_entry_for_every_byte(rt: HostRuntime) -> Result<(), Fail> {
+    let program = accept(rt.alloc(), &ACCEPTED).ok().ok_or("refused")?;
+    let table = program.table();
+    assert_eq!(rt; table.len(), 19);
+    assert_eq!(rt; table.get(17), Some(&Some(Command::End { code: 0 })));
+    assert_eq!(rt; table.get(18), Some(&None));
     Ok(())
 }
 

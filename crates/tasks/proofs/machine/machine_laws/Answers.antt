@@ -5,4 +5,4 @@ pub returns : goal.returns
 returns g c =
     let d = c.args.d.now in
     let t = c.args.t.now in
-    machine_laws (g.met.D.Domain.lawful d) (g.T.Task.begin t) (g.T.Task.words t) (g.T.Task.orders t) (g.met.T.Task.allowed t) c.args.limit
+    machine_laws (g.met.D.Domain.lawful d).laws (g.T.Task.begin t) (g.T.Task.words t) (g.T.Task.orders t) (g.met.T.Task.allowed t) c.args.limit

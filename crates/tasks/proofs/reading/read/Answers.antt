@@ -1,10 +1,11 @@
 use Rattle.std.proofs.Common.{rules}
+use Rattle.tasks.specs.Walks.{finish, made, step}
 use Rattle.tasks.proofs.reading.read.Goals as goal
-
-pub loop-rest-smaller : goal.loop-rest-smaller
-loop-rest-smaller c =
-    let h = c.read_laws.ensures.shorter _ _ _ _ (search rules) c.in_ok-rest.ensures in search (rules, h)
 
 pub loop-rest-preserved : goal.loop-rest-preserved
 loop-rest-preserved c =
-    let h = c.read_laws.ensures.step _ _ _ _ c.loop-rest.invariant (search rules) c.in_ok-rest.ensures in search (rules, h)
+    let h = step _ _ _ _ _ c.loop-rest.invariant (search rules) c.in_ok-rest.ensures in search (rules, h)
+
+pub invariant_of-result : goal.invariant_of-result
+invariant_of-result c =
+    let h = finish _ _ _ (record { some = search rules; few = search rules }) c.loop-rest.invariant (search rules) in record { written = made _ _ h }
