@@ -1,14 +1,9 @@
 -- Bytes written as hexadecimal digits. Assumes nothing.
-use Rattle.std.specs.Prelude.{ℕ, ◌+◌, ◌-◌, ◌*◌, cond, ◌&&◌, List, [], ◌∷◌, is_some, Some, None, Option, nat_le}
+use Rattle.std.specs.Prelude.{ℕ, ◌+◌, ◌-◌, ◌*◌, cond, ◌&&◌, List, [], ◌∷◌, Some, None, Option, nat_le}
 
 -- the value of a digit: 0 to 9, a to f, A to F
 abbrev pub digit_value : ℕ → Option ℕ
 digit_value b = cond (nat_le 48 b && nat_le b 57) (Some (b - 48)) (cond (nat_le 97 b && nat_le b 102) (Some (b - 97 + 10)) (cond (nat_le 65 b && nat_le b 70) (Some (b - 65 + 10)) None))
-
--- n and how many digits stand before the first byte that is none, if there is one
-abbrev pub other_from : ℕ → List ℕ → Option ℕ
-other_from n [] = None
-other_from n (b ∷ bs) = cond (is_some (digit_value b)) (other_from (n + 1) bs) (Some n)
 
 -- the number of two digits; 0 where one is none
 abbrev pub two_digits : Option ℕ → Option ℕ → ℕ

@@ -1,4 +1,3 @@
 pub mod Decimal
 pub mod Hex
-pub mod Inverted
 pub mod Replies

@@ -1,6 +1,7 @@
 // Bytes written as hexadecimal digits.
-ghost use Rattle.std.specs.Prelude.{◌≡◌, ◌<◌, IfSome, IfOk};
-ghost use Rattle.wording.specs.Hex.{digit_value, other_from, two_digits, pair_bytes};
+ghost use Rattle.std.specs.Prelude.{◌≡◌, ◌<◌, IfSome, IfOk, is_some, not};
+ghost use Rattle.std.specs.List.{position};
+ghost use Rattle.wording.specs.Hex.{digit_value, two_digits, pair_bytes};
 
 use std::alloc::{AllocError, Global};
 
@@ -19,14 +20,9 @@ fn hex_digit(b: u8) -> Option<u8>
 
 // How many digits stand before the first byte that is none, if there is one.
 pub fn first_other(text: &[u8]) -> Option<usize>
-    ensures { result ≡ other_from 0 text.now }
+    ensures { result ≡ position (λ b. not (is_some (digit_value b))) text.now }
 {
-    for (i, b) in text.iter().enumerate() {
-        if hex_digit(*b).is_none() {
-            return Some(i);
-        }
-    }
-    None
+    text.iter().position(|b| hex_digit(*b).is_none())
 }
 
 // The bytes of pairs of digits; a single digit at the end is left out.
@@ -34,8 +30,10 @@ pub fn hex_bytes(heap: Global, text: &[u8]) -> Result<Vec<u8>, AllocError>
     ensures { IfOk result (λ v. v.items ≡ pair_bytes text.now) }
 {
     let mut bytes = Vec::new(heap);
-    for i in 0..text.len() / 2 {
-        bytes.push(pair(text[2 * i], text[2 * i + 1]))?;
+    let mut rest = text;
+    while let [high, low, tail @ ..] = rest {
+        bytes.push(pair(*high, *low))?;
+        rest = tail;
     }
     Ok(bytes)
 }

@@ -9,6 +9,9 @@ mod reply;
 
 pub use help::HELP;
 pub use hex::{first_other, hex_bytes};
-pub use inversion::{Inverted, invert};
+pub use inversion::invert;
 pub use number::{NumberFault, decimal};
-pub use reply::{Complaint, Reply};
+pub use reply::{Complaint, Fault, Reply, Said};
+
+#[cfg(test)]
+mod tests;

@@ -18,15 +18,12 @@ pub fn decimal(text: &[u8]) -> Result<u64, NumberFault>
     }
     let mut value = Some(0);
     for b in text {
-        if *b < b'0' || *b > b'9' {
+        if !b.is_ascii_digit() {
             return Err(NumberFault::NoDigits);
         }
         value = shifted(value, *b - b'0');
     }
-    match value {
-        Some(n) => Ok(n),
-        None => Err(NumberFault::PastLimit),
-    }
+    value.ok_or(NumberFault::PastLimit)
 }
 
 // One digit more, and none past 64 bits.
@@ -34,5 +31,5 @@ fn shifted(value: Option<u64>, digit: u8) -> Option<u64>
     requires { digit < 10 }
     ensures { (n : ℕ) → value ≡ fitting n → result ≡ fitting (n * 10 + digit) }
 {
-    value?.checked_mul(10)?.checked_add(digit as u64)
+    value?.checked_mul(10)?.checked_add(u64::from(digit))
 }

@@ -1,10 +1,10 @@
 // What the program answers to a command.
 ghost use Rattle.std.specs.Prelude.{◌≡◌, Some};
-ghost use Rattle.wording.specs.Replies.{complaint_line, fails, reply_lines};
+ghost use Rattle.wording.specs.Replies.{complaint_line, fails, fault_line, reply_lines, said_lines};
+ghost use Rattle.wording.specs.declared.reply.Fault.TheVariants.{Refused, Wrong};
 
 use crate::help::HELP;
-use crate::inversion::Inverted;
-use domains::Refusal;
+use domains::{Answer, Refusal};
 use std::fmt;
 
 // What is wrong with a line that is no command.
@@ -23,12 +23,40 @@ pub enum Complaint<'a> {
     OddDigits(&'a str),
 }
 
+// Why a command is not answered.
 #[derive(Clone, Copy)]
-pub enum Reply<'a> {
-    Help,
-    Euclid(Inverted),
+pub enum Fault<'a> {
     Refused(Refusal),
     Wrong(Complaint<'a>),
+}
+
+impl From<Refusal> for Fault<'_> {
+    ghost from_gives = { λ refusal fault. fault ≡ Refused refusal };
+
+    fn from(refused: Refusal) -> Self {
+        Fault::Refused(refused)
+    }
+}
+
+impl<'a> From<Complaint<'a>> for Fault<'a> {
+    ghost from_gives = { λ complaint fault. fault ≡ Wrong complaint };
+
+    fn from(wrong: Complaint<'a>) -> Fault<'a> {
+        Fault::Wrong(wrong)
+    }
+}
+
+// What is said to a command with nothing wrong.
+#[derive(Clone, Copy)]
+pub enum Said {
+    Help,
+    Euclid(Answer<u64>),
+}
+
+// What the program answers to a command.
+#[derive(Clone, Copy)]
+pub struct Reply<'a> {
+    pub outcome: Result<Said, Fault<'a>>,
 }
 
 impl Reply<'_> {
@@ -36,7 +64,7 @@ impl Reply<'_> {
     pub fn is_failure(&self) -> bool
         ensures { result ≡ fails self.now }
     {
-        matches!(self, Reply::Refused(_) | Reply::Wrong(_))
+        self.outcome.is_err()
     }
 }
 
@@ -61,15 +89,35 @@ impl fmt::Display for Complaint<'_> {
     }
 }
 
+impl fmt::Display for Fault<'_> {
+    ghost output = { λ x. Some (fault_line x) };
+
+    fn fmt<W: fmt::Write>(&self, f: &mut fmt::Formatter<W>) -> fmt::Result {
+        match *self {
+            Fault::Refused(refusal) => write!(f, "{refusal}"),
+            Fault::Wrong(complaint) => write!(f, "{complaint}"),
+        }
+    }
+}
+
+impl fmt::Display for Said {
+    ghost output = { said_lines };
+
+    fn fmt<W: fmt::Write>(&self, f: &mut fmt::Formatter<W>) -> fmt::Result {
+        match *self {
+            Said::Help => write!(f, "{HELP}"),
+            Said::Euclid(answer) => write!(f, "{answer}"),
+        }
+    }
+}
+
 impl fmt::Display for Reply<'_> {
     ghost output = { reply_lines };
 
     fn fmt<W: fmt::Write>(&self, f: &mut fmt::Formatter<W>) -> fmt::Result {
-        match *self {
-            Reply::Help => write!(f, "{HELP}"),
-            Reply::Euclid(answer) => write!(f, "{answer}"),
-            Reply::Refused(refusal) => write!(f, "{refusal}"),
-            Reply::Wrong(complaint) => write!(f, "{complaint}"),
+        match self.outcome {
+            Ok(said) => write!(f, "{said}"),
+            Err(fault) => write!(f, "{fault}"),
         }
     }
 }
