@@ -1,83 +1,66 @@
 // The commands and their words.
-use crate::domain::{DomainName, byte_polys_over, domain_named};
+use crate::domain::{DomainName, byte_polys_over};
+use crate::programs::check;
+use crate::unlisted::Unlisted;
 use bit_polys::BitPolys;
-use domains::Domain;
 use integers::Integers;
-use wording::{Complaint, NumberFault, Reply, decimal, invert};
+use std::alloc::{AllocError, Global};
+use wording::{Complaint, Fault, NumberFault, Reply, Said, decimal, invert};
 
 const EUCLID: &str = "euclid needs DOMAIN WORD MODULUS";
 
+// What is printed for a command: a reply, or the listing of a program.
+#[derive(Drop)]
+pub(crate) enum Output<'a> {
+    Reply(Reply<'a>),
+    Listing(String),
+}
+
 // Answers the command that the words say.
-pub(crate) fn answer<'a>(words: &[&'a str]) -> Reply<'a> {
-    match command(words) {
-        Ok(reply) => reply,
-        Err(complaint) => Reply::Wrong(complaint),
-    }
-}
-
-fn command<'a>(words: &[&'a str]) -> Result<Reply<'a>, Complaint<'a>> {
-    let [name, operands @ ..] = words else {
-        return Err(Complaint::NoCommand);
-    };
-    match *name {
-        "help" => help(operands),
-        "euclid" => euclid(operands),
-        other => Err(Complaint::UnknownCommand(other)),
-    }
-}
-
-fn help<'a>(operands: &[&'a str]) -> Result<Reply<'a>, Complaint<'a>> {
-    match operands {
-        [] => Ok(Reply::Help),
-        [surplus, ..] => Err(Complaint::TooManyWords(surplus)),
-    }
-}
-
-fn euclid<'a>(operands: &[&'a str]) -> Result<Reply<'a>, Complaint<'a>> {
-    match operands {
-        [domain, word, modulus] => match domain_named(domain)? {
-            DomainName::Integers => euclid_over(&Integers, word, modulus),
-            DomainName::BitPolys => euclid_over(&BitPolys, word, modulus),
-            DomainName::BytePolys(p) => euclid_over_bytes(p, word, modulus),
+pub(crate) fn answer<'a>(heap: Global, words: &[&'a str]) -> Result<Output<'a>, AllocError> {
+    let outcome = match words {
+        ["check", operands @ ..] => match check(heap, operands) {
+            Ok(listing) => return Ok(Output::Listing(listing)),
+            Err(Unlisted::Fault(fault)) => Err(fault),
+            Err(Unlisted::NoMemory) => return Err(AllocError),
         },
-        [_, _, _, surplus, ..] => Err(Complaint::TooManyWords(surplus)),
-        _ => Err(Complaint::TooFewWords(EUCLID)),
+        _ => reply(words),
+    };
+    Ok(Output::Reply(Reply { outcome }))
+}
+
+fn reply<'a>(words: &[&'a str]) -> Result<Said, Fault<'a>> {
+    match words {
+        [] => Err(Complaint::NoCommand.into()),
+        ["help"] => Ok(Said::Help),
+        ["help", surplus, ..] => Err(Complaint::TooManyWords(surplus).into()),
+        ["euclid", operands @ ..] => euclid(operands),
+        [other, ..] => Err(Complaint::UnknownCommand(other).into()),
     }
 }
 
-// Byte polynomials over GF(p), where there are any for p.
-fn euclid_over_bytes<'a>(
-    p: u64,
-    word: &'a str,
-    modulus: &'a str,
-) -> Result<Reply<'a>, Complaint<'a>> {
-    match byte_polys_over(p) {
-        Ok(domain) => euclid_over(&domain, word, modulus),
-        Err(refusal) => {
-            number(word)?;
-            number(modulus)?;
-            Ok(Reply::Refused(refusal))
+// The words are looked at in their order, and then the numbers that they say.
+fn euclid<'a>(operands: &[&'a str]) -> Result<Said, Fault<'a>> {
+    match operands {
+        [domain, word, modulus] => {
+            let domain = DomainName::try_from(*domain)?;
+            let word = number(word)?;
+            let modulus = number(modulus)?;
+            let answer = match domain {
+                DomainName::Integers => invert(&Integers, word, modulus)?,
+                DomainName::BitPolys => invert(&BitPolys, word, modulus)?,
+                DomainName::BytePolys(p) => invert(&byte_polys_over(p)?, word, modulus)?,
+            };
+            Ok(Said::Euclid(answer))
         }
-    }
-}
-
-fn euclid_over<'a, D: Domain>(
-    domain: &D,
-    word: &'a str,
-    modulus: &'a str,
-) -> Result<Reply<'a>, Complaint<'a>> {
-    let word = number(word)?;
-    let modulus = number(modulus)?;
-    match invert(domain, word, modulus) {
-        Ok(answer) => Ok(Reply::Euclid(answer)),
-        Err(refusal) => Ok(Reply::Refused(refusal)),
+        [_, _, _, surplus, ..] => Err(Complaint::TooManyWords(surplus).into()),
+        _ => Err(Complaint::TooFewWords(EUCLID).into()),
     }
 }
 
 fn number<'a>(word: &'a str) -> Result<u64, Complaint<'a>> {
-    match decimal(word.as_bytes()) {
-        Ok(n) => Ok(n),
-        Err(NumberFault::NoDigits) => Err(Complaint::NoNumber(word)),
-        Err(NumberFault::PastLimit) => Err(Complaint::LargeNumber(word)),
-    }
+    decimal(word.as_bytes()).map_err(|fault| match fault {
+        NumberFault::NoDigits => Complaint::NoNumber(word),
+        NumberFault::PastLimit => Complaint::LargeNumber(word),
+    })
 }

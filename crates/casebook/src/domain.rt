@@ -16,17 +16,18 @@ pub(crate) enum DomainName {
 }
 
 // The domain that a word names: 1, 2, or 3/P with a number P.
-pub(crate) fn domain_named<'a>(word: &'a str) -> Result<DomainName, Complaint<'a>> {
-    match word {
-        "1" => Ok(DomainName::Integers),
-        "2" => Ok(DomainName::BitPolys),
-        _ => match word.as_bytes() {
-            [b'3', b'/', p @ ..] => match decimal(p) {
-                Ok(p) => Ok(DomainName::BytePolys(p)),
-                Err(_) => Err(Complaint::NoDomain(word)),
-            },
+impl<'a> TryFrom<&'a str> for DomainName {
+    type Error = Complaint<'a>;
+
+    fn try_from(word: &'a str) -> Result<DomainName, Complaint<'a>> {
+        match word.as_bytes() {
+            [b'1'] => Ok(DomainName::Integers),
+            [b'2'] => Ok(DomainName::BitPolys),
+            [b'3', b'/', p @ ..] => decimal(p)
+                .map(DomainName::BytePolys)
+                .map_err(|_| Complaint::NoDomain(word)),
             _ => Err(Complaint::NoDomain(word)),
-        },
+        }
     }
 }
 
@@ -34,12 +35,8 @@ pub(crate) fn domain_named<'a>(word: &'a str) -> Result<DomainName, Complaint<'a
 pub(crate) fn byte_polys_over(p: u64) -> Result<BytePolys, Refusal>
     ensures { MatchResult result (λ d. (d.p ≡ p) × (listed p ≡ true)) (λ e. (e.reason ≡ UnlistedPrime) × (e.place ≡ 0) × (listed p ≡ false)) }
 {
-    if p < 256 {
-        BytePolys::new(p as u8)
-    } else {
-        Err(Refusal {
-            reason: Reason::UnlistedPrime,
-            place: 0,
-        })
+    match u8::try_from(p) {
+        Ok(p) => BytePolys::new(p),
+        Err(_) => Err(Reason::UnlistedPrime.into()),
     }
 }

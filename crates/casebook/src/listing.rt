@@ -1,12 +1,12 @@
 // A checked program for people to read.
 use std::alloc::{AllocError, Global};
 use std::fmt;
-use tasks::{CheckedProgram, Command, Task};
+use tasks::{CheckedProgram, Command};
 
 // A command with its place.
 #[derive(Clone, Copy)]
 struct Line {
-    place: u32,
+    place: usize,
     command: Command,
 }
 
@@ -20,30 +20,30 @@ impl fmt::Display for Line {
                 target,
                 source,
                 next,
-            } => write_one(f, "COPY", target, source, next),
+            } => write!(f, "COPY {target} {source} next {next}"),
             Command::Add {
                 target,
                 left,
                 right,
                 next,
-            } => write_two(f, "ADD", target, left, right, next),
+            } => write!(f, "ADD {target} {left} {right} next {next}"),
             Command::Subtract {
                 target,
                 left,
                 right,
                 next,
-            } => write_two(f, "SUB", target, left, right, next),
+            } => write!(f, "SUB {target} {left} {right} next {next}"),
             Command::Multiply {
                 target,
                 left,
                 right,
                 next,
-            } => write_two(f, "MUL", target, left, right, next),
+            } => write!(f, "MUL {target} {left} {right} next {next}"),
             Command::Invert {
                 target,
                 source,
                 next,
-            } => write_one(f, "INV", target, source, next),
+            } => write!(f, "INV {target} {source} next {next}"),
             Command::Test {
                 source,
                 zero,
@@ -55,48 +55,15 @@ impl fmt::Display for Line {
     }
 }
 
-// A command with one source.
-fn write_one<W: fmt::Write>(
-    f: &mut fmt::Formatter<W>,
-    name: &str,
-    target: u8,
-    source: u8,
-    next: u32,
-) -> fmt::Result {
-    write!(f, "{name} {target} {source} next {next}")
-}
-
-// A command with two sources.
-fn write_two<W: fmt::Write>(
-    f: &mut fmt::Formatter<W>,
-    name: &str,
-    target: u8,
-    left: u8,
-    right: u8,
-    next: u32,
-) -> fmt::Result {
-    write!(f, "{name} {target} {left} {right} next {next}")
-}
-
-// The most bytes that a program has.
-const MOST_BYTES: u32 = 1024;
-
 // How many commands a program has, and a line for each.
 pub(crate) fn listing(heap: Global, program: &CheckedProgram) -> Result<String, AllocError> {
+    let commands = program.table().iter().flatten().count();
     let mut lines = String::new(heap);
-    let mut count = 0usize;
-    for place in 0..MOST_BYTES {
-        let command = program.command(place);
-        if !is_absent(command) {
-            count = count.saturating_add(1);
+    for (place, entry) in program.table().iter().enumerate() {
+        if let Some(command) = *entry {
             let line = Line { place, command };
             lines.push_str(format!(in heap; "\n  {line}")?.as_str())?;
         }
     }
-    format!(in heap; "accepted {count} commands{lines}")
-}
-
-// What a program answers at a place that is no command.
-fn is_absent(command: Command) -> bool {
-    matches!(command, Command::End { code: 240 })
+    format!(in heap; "accepted {commands} commands{lines}")
 }

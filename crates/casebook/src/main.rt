@@ -1,19 +1,18 @@
 // The command line of the case solver: one command, or a batch of them from standard input.
 #![tactic(auto)]
 
-use std::alloc::{AllocError, Global};
 use std::env;
 use std::io::{BufRead, BufReader};
 use std::process::ExitCode;
-use wording::{Complaint, HELP, Reply};
+use wording::{Complaint, Reply, Said};
 
 mod command;
 mod domain;
 mod listing;
 mod programs;
+mod unlisted;
 
-use command::answer;
-use programs::{Output, check_program};
+use command::{Output, answer};
 
 fn main(rt: HostRuntime) -> anyhow::Result<ExitCode> {
     let mut arguments = Vec::new(rt.alloc());
@@ -30,44 +29,34 @@ fn main(rt: HostRuntime) -> anyhow::Result<ExitCode> {
 // Runs one command; `batch`, which only the command line has, answers the lines of standard input.
 fn run(rt: &HostRuntime, words: &[&str]) -> anyhow::Result<ExitCode> {
     match words {
-        [] => usage(rt),
-        ["batch"] => batch(rt),
-        ["batch", surplus, ..] => single(rt, Reply::Wrong(Complaint::TooManyWords(surplus))),
-        _ => respond(rt, words),
-    }
-}
-
-fn usage(rt: &HostRuntime) -> anyhow::Result<ExitCode> {
-    rt.println(HELP)?;
-    Ok(ExitCode::SUCCESS)
-}
-
-fn respond(rt: &HostRuntime, words: &[&str]) -> anyhow::Result<ExitCode> {
-    match output(rt.alloc(), words)? {
-        Output::Reply(reply) => single(rt, reply),
-        Output::Listing(text) => {
-            rt.println(text)?;
-            Ok(ExitCode::SUCCESS)
+        [] => {
+            let outcome = Ok(Said::Help);
+            single(rt, Output::Reply(Reply { outcome }))
         }
-    }
-}
-
-// The answer to a command.
-fn output<'a>(heap: Global, words: &[&'a str]) -> Result<Output<'a>, AllocError> {
-    match words {
-        ["check", operands @ ..] => check_program(heap, operands),
-        _ => Ok(Output::Reply(answer(words))),
+        ["batch"] => batch(rt),
+        ["batch", surplus, ..] => {
+            let outcome = Err(Complaint::TooManyWords(surplus).into());
+            single(rt, Output::Reply(Reply { outcome }))
+        }
+        _ => single(rt, answer(rt.alloc(), words)?),
     }
 }
 
 // Prints an answer; a refusal or an error goes to standard error, and ends the program with status 1.
-fn single(rt: &HostRuntime, reply: Reply<'_>) -> anyhow::Result<ExitCode> {
-    if reply.is_failure() {
-        rt.eprintln(reply)?;
-        Ok(ExitCode::FAILURE)
-    } else {
-        rt.println(reply)?;
-        Ok(ExitCode::SUCCESS)
+fn single(rt: &HostRuntime, output: Output<'_>) -> anyhow::Result<ExitCode> {
+    match output {
+        Output::Reply(reply) if reply.is_failure() => {
+            rt.eprintln(reply)?;
+            Ok(ExitCode::FAILURE)
+        }
+        Output::Reply(reply) => {
+            rt.println(reply)?;
+            Ok(ExitCode::SUCCESS)
+        }
+        Output::Listing(text) => {
+            rt.println(text)?;
+            Ok(ExitCode::SUCCESS)
+        }
     }
 }
 
@@ -79,7 +68,7 @@ fn batch(rt: &HostRuntime) -> anyhow::Result<ExitCode> {
         for word in line.as_str().split_ascii_whitespace() {
             words.push(word)?;
         }
-        match output(rt.alloc(), words.as_slice())? {
+        match answer(rt.alloc(), words.as_slice())? {
             Output::Reply(reply) => rt.println(reply)?,
             Output::Listing(text) => rt.println(text)?,
         }

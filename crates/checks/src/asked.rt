@@ -19,12 +19,11 @@ pub(crate) fn factor<D: Domain>(d: &D, w: u64, f: u64) -> Option<u64> {
     }
 }
 
-// The number of the refusal of a modulus, 0 where it is taken.
-pub(crate) fn refusal<D: Domain>(d: &D, f: u64) -> u8 {
-    match modulus_or_refusal(d, f) {
-        Ok(_) => 0,
-        Err(refusal) => refusal.reason.number(),
-    }
+// The number of the refusal of a modulus, if it is refused.
+pub(crate) fn refusal<D: Domain>(d: &D, f: u64) -> Option<u8> {
+    modulus_or_refusal(d, f)
+        .err()
+        .map(|refusal| refusal.reason.into())
 }
 
 // The two halves of f by the residue of a word.

@@ -36,12 +36,12 @@ fn euclid_at_the_largest_modulus(rt: HostRuntime) {
 
 #[test]
 fn moduli_are_refused_by_number(rt: HostRuntime) {
-    assert_eq!(rt; refusal(&Integers, 0), 9);
-    assert_eq!(rt; refusal(&Integers, 1), 9);
-    assert_eq!(rt; refusal(&Integers, 2147483648), 9);
-    assert_eq!(rt; refusal(&Integers, 12), 10);
-    assert_eq!(rt; refusal(&Integers, 2), 0);
-    assert_eq!(rt; refusal(&Integers, 2147483647), 0);
+    assert_eq!(rt; refusal(&Integers, 0), Some(9));
+    assert_eq!(rt; refusal(&Integers, 1), Some(9));
+    assert_eq!(rt; refusal(&Integers, 2147483648), Some(9));
+    assert_eq!(rt; refusal(&Integers, 12), Some(10));
+    assert_eq!(rt; refusal(&Integers, 2), None);
+    assert_eq!(rt; refusal(&Integers, 2147483647), None);
 }
 
 #[test]
