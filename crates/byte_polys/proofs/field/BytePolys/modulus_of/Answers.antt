@@ -1,4 +1,4 @@
-use Rattle.std.proofs.Common.{refl, sym, subst, eq-eqb}
+use Rattle.std.proofs.Common.{refl, sym, subst, eq-eqb, rules}
 use Rattle.algebra.specs.Divisibility.{Squarefree}
 use Rattle.byte_polys.specs.ByteField.{byte_polys}
 use Rattle.byte_polys.specs.SamePrime.{below_same}
@@ -10,7 +10,8 @@ unfolding byte_polys
 returns-then-not-is_squarefree c =
     let d = c.args.self in
     let found = c.in_ok-a.ensures in
-    λ s. c.if-not-is_squarefree.ensures (subst (Squarefree (byte_polys d.p d.prime).euclidean.ring) (sym (own_element d.p d.prime c.in_ok-a.a.coefficients (eq-eqb _ _ found.0) found.1)) s.squarefree)
+    let own = own_element d.p d.prime c.in_ok-a.a.coefficients (eq-eqb _ _ found.0) found.1 in
+    λ s. let squarefree = subst (Squarefree (byte_polys d.p d.prime).euclidean.ring) (sym own) s.squarefree in search (rules, c.if-not-is_squarefree.ensures)
 
 pub invariant_of-result : goal.invariant_of-result
 unfolding byte_polys

@@ -1,4 +1,4 @@
-use Rattle.std.proofs.Common.{sym, arith}
+use Rattle.std.proofs.Common.{sym, arith, rules}
 use Rattle.domains.specs.Meaning.{SquarefreeModulus}
 use Rattle.integers.specs.Integers.{integers}
 use Rattle.integers.specs.Squarefree.{NoSquareDivides, ModulusWord}
@@ -11,5 +11,5 @@ pub returns-then-is_legal : goal.returns-then-is_legal
 returns-then-is_legal c =
     let w = c.args.w in
     let b = word_bounds w (sym c.if-is_legal.ensures) in
-    let plain = decides_like c.no_square_divides.result (NoSquareDivides w) (ModulusWord w) (λ f. record { large = b.low; small = omega arith; free = f }) (λ m. m.free) c.no_square_divides.ensures in
+    let plain = decides_like c.no_square_divides.result (NoSquareDivides w) (ModulusWord w) (λ f. record { large = b.low; small = omega arith; free = f }) (λ m. m.free) (search rules) in
     record { meant = decides_like c.no_square_divides.result (ModulusWord w) (SquarefreeModulus integers w) (squarefree_modulus w) (modulus_word w) plain; plain = plain }
