@@ -1,12 +1,12 @@
 -- What the answers of a domain's calls mean where all arguments are its own. Assumes nothing.
 use Rattle.std.proofs.Common.{◌≡◌, ℕ, Bool, true, false, cond, ◌&&◌, eqb, None, MatchBool, Option, sym, refl, ap, ◌∙◌, subst, eq-eqb, MatchOption}
 use Rattle.std.proofs.lemmas.Bool.{and_from, and_parts, false≢true}
-use Rattle.algebra.specs.Divisibility.{Divides, Congruent}
-use Rattle.algebra.proofs.Ring.{sub_self, add-zero}
+use Rattle.algebra.specs.Divisibility.{Divides, Congruent, IsUnit}
+use Rattle.algebra.proofs.Ring.{one-mul, sub_self, add-zero}
 use Rattle.algebra.proofs.Divides.{divides_self, divides_zero, divides_eq}
 use Rattle.algebra.proofs.Congruence.{congruent_eq, congruent_symmetric, congruent_trans, congruent_divides}
 use Rattle.domains.specs.Meaning.{Meaning, Laws, residue, legal_word}
-use Rattle.domains.specs.Answers.{Residue, IsZero, zero_word, sum, difference}
+use Rattle.domains.specs.Answers.{Residue, IsZero, Normalized, zero_word, one_word, sum, difference}
 use Rattle.domains.proofs.Remainders.{residue_element, residue_congruent, divides_zero_remainder}
 
 -- a flag that is known to be true may stand in between
@@ -81,3 +81,14 @@ module _ {M : Meaning} (L : Laws M) (m : ℕ) where
     reduced_zero d =
         answer_element L legal (sum M a w) (and_from _ _ (and_from _ _ (and_parts x z own).0 own_zero) (and_parts x z own).1) reduced_is
         ∙ divides_zero_remainder L legal (sum M a w) (divides_eq M.euclidean.ring d (sym (ap (M.euclidean.ring.add (M.element a)) zero_element ∙ add-zero M.euclidean.ring (M.element a))))
+
+-- a value whose element is normal unless it is 0 is its own normal multiple, by 1
+pub own_multiple : (M : Meaning) (a u : ℕ) → u ≡ one_word M → M.element u ≡ M.euclidean.ring.one → (¬ IsZero M a → M.euclidean.normal (M.element a) ≡ true) → (IsZero M a → a ≡ zero_word M) → Normalized M a a u
+own_multiple M a u is stands normal zero = record {
+  of_nonzero = λ ne. record {
+    unit = subst (IsUnit M.euclidean.ring) (sym stands) (divides_self M.euclidean.ring M.euclidean.ring.one);
+    multiple = sym (ap (λ x. M.euclidean.ring.mul x (M.element a)) stands ∙ one-mul M.euclidean.ring (M.element a));
+    normal = normal ne;
+  };
+  of_zero = λ z. (zero z, is);
+}
