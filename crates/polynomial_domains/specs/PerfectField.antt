@@ -1,5 +1,5 @@
 -- A perfect field with its scalars, and remainders of polynomials over it. Assumes nothing.
-use Rattle.std.specs.Prelude.{◌≢◌}
+use Rattle.std.specs.Prelude.{◌≡◌, ◌≢◌}
 use Rattle.algebra.specs.Field.{Field}
 use Rattle.algebra.specs.Euclidean.{Division}
 use Rattle.polynomials.specs.Perfect.{Perfect}
@@ -12,6 +12,7 @@ pub record PerfectField : Type 1 where
   pub field : Field Scalar
   pub perfect : Perfect field
 
--- r is a remainder of a by b, where b is not 0
-abbrev pub IsRemainder : (F : PerfectField) → Polynomial F.field → Polynomial F.field → Polynomial F.field → Type 0
-IsRemainder F a b r = b ≢ zero_polynomial F.field → (q : Polynomial F.field) × Division (polynomials F.field) a b q r
+-- r is a remainder of a by b; by 0 it is a
+pub record IsRemainder (F : PerfectField) (a b r : Polynomial F.field) : Type 0 where
+  pub by_nonzero : b ≢ zero_polynomial F.field → (q : Polynomial F.field) × Division (polynomials F.field) a b q r
+  pub by_zero : b ≡ zero_polynomial F.field → r ≡ a

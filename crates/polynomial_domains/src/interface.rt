@@ -19,7 +19,7 @@ pub trait Polynomials {
     fn derivative(&self, a: Self::Polynomial) -> Self::Polynomial
         ensures { stands_for self.now result ≡ derivative_of (scalars self.now).field (stands_for self.now a) };
 
-    // The remainder of a by b; by 0 it may be anything.
+    // The remainder of a by b; by 0 it is a.
     fn remainder(&self, a: Self::Polynomial, b: Self::Polynomial) -> Self::Polynomial
         ensures { IsRemainder (scalars self.now) (stands_for self.now a) (stands_for self.now b) (stands_for self.now result) };
 
