@@ -34,12 +34,12 @@ impl From<Reason> for u8 {
     }
 }
 
-// The reason in words.
-impl fmt::Display for Reason {
-    ghost output = { λ reason. Some (text_of reason) };
-
-    fn fmt<W: fmt::Write>(&self, f: &mut fmt::Formatter<W>) -> fmt::Result {
-        f.write_str(match self {
+impl Reason {
+    // The reason in words.
+    pub fn text(self) -> &'static str
+        ensures { result.now ≡ text_of self }
+    {
+        match self {
             Reason::ProgramLength => "the program has no bytes or more than 1,024",
             Reason::UnknownCommand => "an unknown command byte",
             Reason::MissingOperands => "a command's operands run past the end",
@@ -54,7 +54,15 @@ impl fmt::Display for Reason {
             Reason::ZeroLimit => "the limit is 0",
             Reason::NoOpenRow => "there is no open row to work on",
             Reason::OpenRow => "the table has an open row",
-        })
+        }
+    }
+}
+
+impl fmt::Display for Reason {
+    ghost output = { λ reason. Some (text_of reason) };
+
+    fn fmt<W: fmt::Write>(&self, f: &mut fmt::Formatter<W>) -> fmt::Result {
+        f.write_str(self.text())
     }
 }
 
