@@ -32,7 +32,7 @@ module _ {M : Meaning} (L : Laws M) {m : M.Element} (legal : M.legal m ≡ true)
 
   -- a command has at most one effect
   pub does_unique : (c : Command) (cs : List ℕ) (e f : Effect) → Does M m c cs e → Does M m c cs f → e ≡ f
-  does_unique (Set d w n) cs e f p q = p ∙ sym q
+  does_unique (Set d n w) cs e f p q = p ∙ sym q
   does_unique (Copy d a n) cs e f p q = p ∙ sym q
   does_unique (Add d a b n) cs e f p q = p ∙ sym q
   does_unique (Subtract d a b n) cs e f p q = p ∙ sym q
@@ -67,7 +67,7 @@ module _ {M : Meaning} (L : Laws M) {m : M.Element} (legal : M.legal m ≡ true)
 
   -- so a command always has an effect
   pub does_something : Irreducible 𝓡 m → (c : Command) (cs : List ℕ) → (e : Effect) × Does M m c cs e
-  does_something i (Set d w n) cs = (_, refl)
+  does_something i (Set d n w) cs = (_, refl)
   does_something i (Copy d a n) cs = (_, refl)
   does_something i (Add d a b n) cs = (_, refl)
   does_something i (Subtract d a b n) cs = (_, refl)
@@ -122,7 +122,7 @@ module _ {M : Meaning} (L : Laws M) {m g : M.Element} (legal_m : M.legal m ≡ t
 
     -- what a command does modulo m, it does modulo g
     pub does_reduced : (c : Command) (e : Effect) → Allowed c → Does M m c cs e → Does M g c (map down cs) (reduced_effect M g e)
-    does_reduced (Set d w n) e ok p = ap (reduced_effect M g) p ∙ written n d _ _ (down_residue (M.element w) (M.element w) (congruent_self 𝓢 (M.element w)))
+    does_reduced (Set d n w) e ok p = ap (reduced_effect M g) p ∙ written n d _ _ (down_residue (M.element w) (M.element w) (congruent_self 𝓢 (M.element w)))
     does_reduced (Copy d a n) e ok p = ap (reduced_effect M g) p ∙ written n d _ _ (read a ok.1)
     does_reduced (Add d a b n) e ok p = ap (reduced_effect M g) p ∙ written n d _ _ (down_residue (sum M (cell cs a) (cell cs b)) (sum M (cell (map down cs) a) (cell (map down cs) b)) (congruent_add 𝓢 (read_congruent a ok.1) (read_congruent b ok.2)))
     does_reduced (Subtract d a b n) e ok p = ap (reduced_effect M g) p ∙ written n d _ _ (down_residue (difference M (cell cs a) (cell cs b)) (difference M (cell (map down cs) a) (cell (map down cs) b)) (congruent_sub 𝓢 (read_congruent a ok.1) (read_congruent b ok.2)))

@@ -48,7 +48,7 @@ module _ {M : Meaning} (L : Laws M) (begin : ℕ) (words : ℕ → ℕ) (orders 
 
   effect_cells : (m : M.Element) (c : Command) (cs : List ℕ) (e : Effect) (k : ℕ) → Does M m c cs e → length cs ≡ k → length (cells_of e cs) ≡ k
   unfolding cells_of
-  effect_cells m (Set d w n) cs e k p h = ap (λ x. length (cells_of x cs)) p ∙ written k cs d _ h
+  effect_cells m (Set d n w) cs e k p h = ap (λ x. length (cells_of x cs)) p ∙ written k cs d _ h
   effect_cells m (Copy d a n) cs e k p h = ap (λ x. length (cells_of x cs)) p ∙ written k cs d _ h
   effect_cells m (Add d a b n) cs e k p h = ap (λ x. length (cells_of x cs)) p ∙ written k cs d _ h
   effect_cells m (Subtract d a b n) cs e k p h = ap (λ x. length (cells_of x cs)) p ∙ written k cs d _ h

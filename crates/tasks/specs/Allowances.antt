@@ -15,7 +15,7 @@ use Rattle.tasks.specs.Ranges.{Ranged, program_ranged}
 
 -- that a command is allowed has one proof at most
 allowed_prop : (c : Command) → IsProp (Allowed c)
-allowed_prop (Set d w n) = le_prop
+allowed_prop (Set d n w) = le_prop
 allowed_prop (Copy d a n) = λ x y i. (le_prop x.0 y.0 i, le_prop x.1 y.1 i)
 allowed_prop (Add d a b n) = λ x y i. (le_prop x.0 y.0 i, le_prop x.1 y.1 i, le_prop x.2 y.2 i)
 allowed_prop (Subtract d a b n) = λ x y i. (le_prop x.0 y.0 i, le_prop x.1 y.1 i, le_prop x.2 y.2 i)

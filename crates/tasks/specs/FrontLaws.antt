@@ -35,7 +35,7 @@ abbrev pub byte_at : List ℕ → ℕ → ℕ
 byte_at bs i = slice_index bs i
 
 pub record FrontLaws (p : ℕ) (bs : List ℕ) : Type 0 where
-  pub set : (w : ℕ) → byte_at bs 0 ≡ 1 → 10 ≤ length bs → Spells 8 (byte_at bs 2 ∷ byte_at bs 3 ∷ byte_at bs 4 ∷ byte_at bs 5 ∷ byte_at bs 6 ∷ byte_at bs 7 ∷ byte_at bs 8 ∷ byte_at bs 9 ∷ []) w → Parsed p bs (Set (byte_at bs 1) w (p + 10)) (beyond 10 bs)
+  pub set : (w : ℕ) → byte_at bs 0 ≡ 1 → 10 ≤ length bs → Spells 8 (byte_at bs 2 ∷ byte_at bs 3 ∷ byte_at bs 4 ∷ byte_at bs 5 ∷ byte_at bs 6 ∷ byte_at bs 7 ∷ byte_at bs 8 ∷ byte_at bs 9 ∷ []) w → Parsed p bs (Set (byte_at bs 1) (p + 10) w) (beyond 10 bs)
   pub copy : byte_at bs 0 ≡ 2 → 3 ≤ length bs → Parsed p bs (Copy (byte_at bs 1) (byte_at bs 2) (p + 3)) (beyond 3 bs)
   pub add : byte_at bs 0 ≡ 3 → 4 ≤ length bs → Parsed p bs (Add (byte_at bs 1) (byte_at bs 2) (byte_at bs 3) (p + 4)) (beyond 4 bs)
   pub subtract : byte_at bs 0 ≡ 4 → 4 ≤ length bs → Parsed p bs (Subtract (byte_at bs 1) (byte_at bs 2) (byte_at bs 3) (p + 4)) (beyond 4 bs)

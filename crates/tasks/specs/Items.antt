@@ -62,7 +62,7 @@ encoded i = opcode i ∷ operands i
 
 -- the command of an item at a place: where no next place is named, it is that of the following item
 abbrev pub placed : ℕ → Item → Command
-placed p (set_item d w) = Set d w (p + 10)
+placed p (set_item d w) = Set d (p + 10) w
 placed p (copy_item d a) = Copy d a (p + 3)
 placed p (add_item d a b) = Add d a b (p + 4)
 placed p (subtract_item d a b) = Subtract d a b (p + 4)

@@ -36,7 +36,7 @@ module _ (M : Meaning) (m : M.Element) where
   -- What a command does modulo m. All cells are read before one is written. INV and TEST have an effect only where m
   -- divides the cell or the cell has an inverse modulo m.
   abbrev pub Does : Command → List ℕ → Effect → Type 0
-  Does (Set d w n) cs e = e ≡ moves n (slice_set cs d (residue M m (M.element w)))
+  Does (Set d n w) cs e = e ≡ moves n (slice_set cs d (residue M m (M.element w)))
   Does (Copy d a n) cs e = e ≡ moves n (slice_set cs d (cell cs a))
   Does (Add d a b n) cs e = e ≡ moves n (slice_set cs d (residue M m (sum M (cell cs a) (cell cs b))))
   Does (Subtract d a b n) cs e = e ≡ moves n (slice_set cs d (residue M m (difference M (cell cs a) (cell cs b))))

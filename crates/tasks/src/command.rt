@@ -3,11 +3,12 @@
 // A command with its operands and its next places. Cells are numbered from 0 to 63.
 #[derive(Clone, Copy, PartialEq, Eq, Debug)]
 pub enum Command {
-    // Puts the residue of a word into a cell.
+    // Puts the residue of a word into a cell. Fields lie in the order in which they stand: with the word last a command
+    // takes 16 bytes and an entry of a table 24, with the word in the middle 24 and 32.
     Set {
         target: u8,
-        word: u64,
         next: u32,
+        word: u64,
     },
     // Copies a cell.
     Copy {

@@ -1,15 +1,17 @@
 // Byte programs: the two types of them, one only read and one checked.
-ghost use Rattle.std.specs.Prelude.{◌≡◌, Ok as Right, Err as Wrong, MatchResult};
+ghost use Rattle.std.specs.Prelude.{◌≡◌, ◌≤◌, length, Ok as Right, Err as Wrong, MatchResult};
 ghost use Rattle.tasks.specs.Programs.{IsChecked, IsRead, Verdict};
+ghost use Rattle.tasks.specs.declared.table.TheConstants.{MOST_BYTES};
 
 use super::command::Command;
 use super::table::Table;
 use domains::Refusal;
 
-// A program that was read.
+// A program that was read. That its table is short is said here too, since what `Table` keeps is not seen from outside.
 #[derive(Drop)]
 pub struct ReadProgram {
     pub(crate) table: Table,
+    ghost short: { length table ≤ MOST_BYTES },
     ghost written: { ∥ IsRead table ∥₁ },
 }
 

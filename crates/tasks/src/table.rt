@@ -7,9 +7,13 @@ use super::command::Command;
 use domains::{Reason, Refusal};
 use std::alloc::{AllocError, Global};
 use std::marker::Model;
+use std::mem::size_of;
 
 // The most bytes that a program may have.
 pub(crate) const MOST_BYTES: usize = 1024;
+
+// An entry takes no more than 24 bytes: see the fields of `Command::Set`.
+const _: () = prove!(size_of::<Option<Command>>() <= 24);
 
 // The entries of a program, one for every byte: at the first byte of a command that command, at its other bytes none.
 #[derive(Drop)]

@@ -8,4 +8,4 @@ loop-rest-preserved c =
 
 pub invariant_of-result : goal.invariant_of-result
 invariant_of-result c =
-    let h = finish _ _ _ (record { some = search rules; few = search rules }) c.loop-rest.invariant (search rules) in record { written = made _ _ h }
+    let h = finish _ _ _ (record { some = search rules; few = search rules }) c.loop-rest.invariant (search rules) in record { short = search (rules, c.loop-rest.invariant.parts); written = made _ _ h }
