@@ -29,7 +29,7 @@ module _ {K : Type 0} {𝓚 : Field K} {d : Digits 𝓚} {p : ℕ} (L : Modulo �
         go (no ne) = end i (omega arith)
 
     -- the coefficients are below p
-    derivative_below : Below p r
+    pub derivative_below : Below p r
     derivative_below i = go (dec_lt i 7)
       where
         go : Dec (i < 7) → get_or r i 0 < p

@@ -21,13 +21,13 @@ use Rattle.byte_polys.proofs.Sums.{zeros_below, multiple_poly}
 use Rattle.byte_polys.proofs.Zeros.{Zeros}
 
 -- a constant: its coefficients are below p
-constant_below : (p u : ℕ) (zs : List ℕ) → u < p → Zeros zs → Below p (u ∷ zs)
+pub constant_below : (p u : ℕ) (zs : List ℕ) → u < p → Zeros zs → Below p (u ∷ zs)
 constant_below p u zs h z zero = h
 constant_below p u zs h z (suc i) = let e = z.each i in omega arith
 
 module _ {K : Type 0} {𝓚 : Field K} {d : Digits 𝓚} {p : ℕ} (L : Modulo 𝓚 d p) where
   -- it is the polynomial u x^0
-  constant_poly : (u : ℕ) (zs : List ℕ) → u < p → Zeros zs → from_word 𝓚 d (number (u ∷ zs)) ≡ monomial 𝓚 (d.element u) 0
+  pub constant_poly : (u : ℕ) (zs : List ℕ) → u < p → Zeros zs → from_word 𝓚 d (number (u ∷ zs)) ≡ monomial 𝓚 (d.element u) 0
   constant_poly u zs h z = poly_is L (u ∷ zs) _ (constant_below p u zs h z) go
     where
       go : (i : ℕ) → d.element (get_or (u ∷ zs) i 0) ≡ (monomial 𝓚 (d.element u) 0).coefficient i
@@ -35,21 +35,21 @@ module _ {K : Type 0} {𝓚 : Field K} {d : Digits 𝓚} {p : ℕ} (L : Modulo �
       go (suc i) = ap d.element (z.each i) ∙ element_zero 𝓚 d ∙ sym (coefficient_monomial_other 𝓚 (d.element u) 0 (suc i) (omega arith))
 
   -- the constant 1 is the word of the polynomial 1
-  one_number : (u : ℕ) (zs : List ℕ) → u ≡ 1 → u < p → Zeros zs → number (u ∷ zs) ≡ to_word 𝓚 d (one_polynomial 𝓚)
+  pub one_number : (u : ℕ) (zs : List ℕ) → u ≡ 1 → u < p → Zeros zs → number (u ∷ zs) ≡ to_word 𝓚 d (one_polynomial 𝓚)
   unfolding one_polynomial
   one_number u zs e h z = number_is L (u ∷ zs) _ (constant_below p u zs h z) (constant_poly u zs h z ∙ ap (λ x. monomial 𝓚 (d.element x) 0) e ∙ ap (λ c. monomial 𝓚 c 0) L.one)
 
   module _ (cs ys zs : List ℕ) (u : ℕ) (h : Below p cs) (end : ZeroFrom 8 cs) (N : Normalizer p cs u) (zeros : Zeros zs) (start : List ℕ) (none : Zeros start) (a : Added p u 0 8 start cs ys) where
     -- the coefficients of the multiple are below p
-    multiple_below : Below p ys
+    pub multiple_below : Below p ys
     multiple_below = added_below L.positive a (zeros_below L none)
 
     -- the monic multiple is the product with the unit
-    monic_product : from_word 𝓚 d (number ys) ≡ times 𝓚 (from_word 𝓚 d (number (u ∷ zs))) (from_word 𝓚 d (number cs))
+    pub monic_product : from_word 𝓚 d (number ys) ≡ times 𝓚 (from_word 𝓚 d (number (u ∷ zs))) (from_word 𝓚 d (number cs))
     monic_product = multiple_poly L a none (below_byte L cs h) end ∙ ap (λ f. times 𝓚 f (from_word 𝓚 d (number cs))) (sym (constant_poly u zs N.below zeros))
 
     -- of 0 it is 0, by 1
-    zero_multiple : from_word 𝓚 d (number cs) ≡ zero_polynomial 𝓚 → (number ys ≡ to_word 𝓚 d (zero_polynomial 𝓚)) × (number (u ∷ zs) ≡ to_word 𝓚 d (one_polynomial 𝓚))
+    pub zero_multiple : from_word 𝓚 d (number cs) ≡ zero_polynomial 𝓚 → (number ys ≡ to_word 𝓚 d (zero_polynomial 𝓚)) × (number (u ∷ zs) ≡ to_word 𝓚 d (one_polynomial 𝓚))
     zero_multiple z = (
       number_is L ys _ multiple_below (monic_product ∙ ap (times 𝓚 (from_word 𝓚 d (number (u ∷ zs)))) z ∙ Ring.mul-zero (polynomial_ring 𝓚) _),
       one_number u zs (N.of_zero (λ i l. zero_bytes L cs h z i)) N.below zeros,
@@ -70,10 +70,10 @@ module _ {K : Type 0} {𝓚 : Field K} {d : Digits 𝓚} {p : ℕ} (L : Modulo �
       unit_not_zero : d.element u ≢ 𝓚.ring.zero
       unit_not_zero z = 𝓚.one_not_zero (sym lead_product ∙ ap (λ x. 𝓚.ring.mul x (leading 𝓚 (from_word 𝓚 d (number cs)))) z ∙ Ring.zero-mul 𝓚.ring _)
 
-      unit_constant : IsUnit (polynomial_ring 𝓚) (from_word 𝓚 d (number (u ∷ zs)))
+      pub unit_constant : IsUnit (polynomial_ring 𝓚) (from_word 𝓚 d (number (u ∷ zs)))
       unit_constant = subst (IsUnit (polynomial_ring 𝓚)) (sym (constant_poly u zs N.below zeros)) (constant_unit 𝓚 (d.element u) unit_not_zero)
 
-      multiple_monic : monic 𝓚 (from_word 𝓚 d (number ys)) ≡ true
+      pub multiple_monic : monic 𝓚 (from_word 𝓚 d (number ys)) ≡ true
       multiple_monic =
           leading_monic 𝓚 (from_word 𝓚 d (number ys))
           (ap (leading 𝓚) (multiple_poly L a none (below_byte L cs h) end)

@@ -42,12 +42,17 @@ impl Domain for BytePolys {
 
     ghost one_modulus_word = { λ d e m. refl };
 
+    // A modulus of another p is seen before anything is calculated, here and in the next three.
     fn residue(&self, w: u64, m: BytePolyModulus) -> BytePoly {
-        self.row(self.value(w)).residue(m)
+        if m.p == self.p {
+            self.row(self.value(w)).residue(m)
+        } else {
+            self.zero()
+        }
     }
 
     fn add(&self, a: BytePoly, b: BytePoly, m: BytePolyModulus) -> BytePoly {
-        if self.owns(a, b) {
+        if self.owns(a, b) && m.p == self.p {
             self.sum(a, b).residue(m)
         } else {
             self.zero()
@@ -55,7 +60,7 @@ impl Domain for BytePolys {
     }
 
     fn subtract(&self, a: BytePoly, b: BytePoly, m: BytePolyModulus) -> BytePoly {
-        if self.owns(a, b) {
+        if self.owns(a, b) && m.p == self.p {
             self.difference(a, b).residue(m)
         } else {
             self.zero()
@@ -63,7 +68,7 @@ impl Domain for BytePolys {
     }
 
     fn multiply(&self, a: BytePoly, b: BytePoly, m: BytePolyModulus) -> BytePoly {
-        if self.owns(a, b) {
+        if self.owns(a, b) && m.p == self.p {
             self.product(a, b).residue(m)
         } else {
             self.zero()
