@@ -1,8 +1,8 @@
 -- Why it is enough to divide out the factors up to the cube root of a number, and then to see whether a square is left.
 -- Assumes nothing.
-use Rattle.std.proofs.Common.{◌≡◌, ℕ, ◌+◌, ◌*◌, ◌/◌, ◌%◌, ◌<◌, ◌≤◌, Bool, true, false, not, ◌≢◌, ◌⊎◌, ℤ, pos, ◌*ℤ◌, nat_abs, sym, ap, ◌∙◌, subst, inl, inr, arith}
+use Rattle.std.proofs.Common.{◌≡◌, ℕ, ◌+◌, ◌*◌, ◌/◌, ◌%◌, ◌^◌, ◌<◌, ◌≤◌, Bool, true, false, not, ◌≢◌, ◌⊎◌, ℤ, pos, ◌*ℤ◌, nat_abs, sym, ap, ◌∙◌, subst, inl, inr, arith}
 use native.Mathlib.Nat as Nat
-use native.Mathlib.Decide.{dec_lt, ℕ_discrete}
+use native.Mathlib.Decide.{dec_le, dec_lt, ℕ_discrete}
 use lib.IntN.{*ℤ_comm}
 use Rattle.algebra.specs.Divisibility.{Divides, IsUnit, Irreducible, Coprime}
 use Rattle.algebra.proofs.Divides.{divides_product, coprime_symmetric}
@@ -26,6 +26,10 @@ pub record Stage (n rest d : ℕ) : Type 0 where
   pub none_below : (k : ℕ) → 2 ≤ k → k < d → rest % k ≡ 0 → ⊥
   -- every square that divides n divides it
   pub squares : (k : ℕ) → 2 ≤ k → n % (k * k) ≡ 0 → rest % (k * k) ≡ 0
+
+-- before anything is divided out
+pub start : (n : ℕ) → 0 < n → Stage n n 2
+start n h = record { some = h; part = Nat.mod_self n; none_below = λ k l u e. omega arith; squares = λ k l e. e }
 
 -- d divides the rest: as nothing below d does, d is irreducible
 least_irreducible : {n rest d : ℕ} → Stage n rest d → 2 ≤ d → rest % d ≡ 0 → Irreducible ring (pos d)
@@ -141,3 +145,29 @@ none_found {n} {rest} {d} s small no-root k l e = go (ℕ_discrete j 0) (ℕ_dis
 pub decided : {n rest d : ℕ} → Stage n rest d → rest < d * d * d → (r : Bool) → Decides r (IsSquare rest) → Decides (not r) (NoSquareDivides n)
 decided s small true q = found_square s q
 decided s small false q = none_found s small q
+
+-- the integer root of a number is the only candidate for its root
+pub only_root : (n r : ℕ) → r * r ≤ n → n < (r + 1) * (r + 1) → (q : IsSquare n) → r ≡ q.0
+only_root n r low high q = go (dec_lt r k) (dec_lt k r)
+  where
+    k : ℕ
+    k = q.0
+
+    go : Dec (r < k) → Dec (k < r) → r ≡ k
+    go (yes u) w =
+        let h : r + 1 ≤ k = omega arith in
+        absurd (omega (arith, q.2, Nat.mul-le-mul h h))
+    go (no u) (yes w) =
+        let h : k + 1 ≤ r = omega arith in
+        absurd (omega (arith, q.2, Nat.mul-le-mul h h, Nat.mul-add (k + 1) k 1, Nat.add-mul k 1 k))
+    go (no u) (no w) = omega arith
+
+-- a cube below 2^31 is that of a number up to 1290
+pub cube_root : (d : ℕ) → d * d * d < 2 ^ 31 → d ≤ 1290
+cube_root d h = go (dec_le d 1290)
+  where
+    go : Dec (d ≤ 1290) → d ≤ 1290
+    go (yes l) = l
+    go (no n) =
+        let u : 1291 ≤ d = omega arith in
+        absurd (omega (arith, Nat.mul-le-mul (Nat.mul-le-mul u u) u))
