@@ -46,11 +46,13 @@ number_le (suc n) w rest h = grind (arith, number_shift n (w % 256) (little_endi
 pub record Spelled (ms : List ℕ) (i : Item) : Type 0 where
   pub written : ms ≡ encoded i ++ drop (size i) ms
   pub proper : Proper i
+  pub whole : size i ≤ length ms
 
 spelled : (ms : List ℕ) → Bytes ms → in_range (item_at ms) ≡ true → shape ms ≡ Ok tt → Spelled ms (item_at ms)
 spelled ms b v s = record {
   written = grind (arith, nat_tests, cut ms 1 9, cut ms 2 2, cut ms 3 3, cut ms 4 3, cut ms 5 3, cut ms 6 2, cut ms 7 3, cut ms 8 2, cut ms 9 1, le_number 8 2 ms b, le_number 2 2 ms b, le_number 2 1 ms b);
   proper = grind (arith, nat_tests, b 1, b 2, b 3, b 4, b 5, b 6, b 7, b 8, b 9);
+  whole = grind (arith, nat_tests);
 }
 
 first_spelled : (ms : List ℕ) → Bytes ms → (i : Item) → first ms ≡ Ok i → Spelled ms i
